@@ -1,0 +1,31 @@
+-- Refusals and acceptance (01, sections 8 and 11: the Rust's `Result` becomes a number in the answer).
+use mathlib.Core.Bool.{Bool, true, false}
+use mathlib.Core.Option.{Option, none, some}
+use Prim.Native.Nat.{ℕ}
+
+-- Refused with a number of section 8, or accepted with a result.
+pub data Answer (A : Type 0) : Type 0 where
+  refused : ℕ → Answer A
+  accepted : A → Answer A
+
+-- `do` notation: the first refusal in reading order is the answer.
+module _ {A B : Type 0} where
+  infixl 20 _>>=_
+  unfoldable pub _>>=_ : Answer A → (A → Answer B) → Answer B
+  _>>=_ (refused k) f = refused k
+  _>>=_ (accepted a) f = f a
+
+  infixl 20 _>>_
+  unfoldable pub _>>_ : Answer A → Answer B → Answer B
+  _>>_ (refused k) b = refused k
+  _>>_ (accepted a) b = b
+
+-- Refusal k unless the test holds.
+unfoldable pub check : ℕ → Bool → Answer (Unit {0})
+check k true = accepted tt
+check k false = refused k
+
+-- Refusal k where there is nothing.
+unfoldable pub orRefuse : {A : Type 0} → ℕ → Option A → Answer A
+orRefuse k none = refused k
+orRefuse k (some a) = accepted a

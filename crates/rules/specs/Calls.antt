@@ -1,0 +1,164 @@
+-- The public calls (01, section 8). Each is one total function of its arguments and of the lengths of its buffers:
+-- the answer, and the whole final contents of every writable buffer, accepted and refused alike.
+use mathlib.Core.Bool.{Bool, true, false, _&&_}
+use mathlib.Core.List.{List, [], _∷_, _++_}
+use mathlib.Core.Option.{Option, none, some}
+use Prim.Native.Nat.{ℕ, _*_, _-_, min}
+use lib.Dec.{leb}
+use lib.ListN.{length, replicate}
+use Rattle.rules.specs.Answer.{Answer, refused, accepted, _>>=_, _>>_, check, orRefuse}
+use Rattle.rules.specs.Reader.{all}
+use Rattle.rules.specs.Bytes.{ascii, isPath, isFolder, parent}
+use Rattle.rules.specs.Bundle.{Entry, bundleOf}
+use Rattle.rules.specs.Files.{entryAt, isFolderOf, view, fetch}
+use Rattle.rules.specs.Sheet.{Records, encode, sheetOf, resolve, resolveString, kindOf}
+use Rattle.rules.specs.Pass.{included, expanded, passed, closed}
+use Rattle.rules.specs.Imports.{definitions}
+
+-- L: the sheet buffer's length; a longer one counts as 65,535.
+unfoldable pub limit : ℕ → ℕ
+limit l = min l 65535
+
+-- A buffer of n bytes: all zero; or a result, and zero behind it.
+unfoldable pub zeros : ℕ → List ℕ
+zeros n = replicate n 0
+
+unfoldable pub padded : ℕ → List ℕ → List ℕ
+padded n t = t ++ zeros (n - length t)
+
+-- KIND: 3, 6.
+pub record Kind : Type 0 where
+  pub number : ℕ
+  pub kind : ℕ
+
+unfoldable pub kindAnswer : Answer ℕ → Kind
+kindAnswer (refused k) = record { number = k; kind = 0 }
+kindAnswer (accepted c) = record { number = 0; kind = c }
+
+unfoldable pub resolveOf : List ℕ → List ℕ → Kind
+resolveOf sheet path = kindAnswer (do
+  s ← orRefuse 3 (sheetOf sheet)
+  check 6 (all ascii path)
+  accepted (kindOf (resolve s path)))
+
+-- An answer with one output buffer.
+pub record Output : Type 0 where
+  pub number : ℕ
+  pub len : ℕ
+  pub out : List ℕ
+
+-- n: the buffer's length.
+unfoldable pub outputAnswer : ℕ → Answer (List ℕ) → Output
+outputAnswer n (refused k) = record { number = k; len = 0; out = zeros n }
+outputAnswer n (accepted o) = record { number = 0; len = length o; out = padded n o }
+
+-- TEXT: 3, 6, 11. n: the length of `out`.
+unfoldable pub resolveStringOf : List ℕ → List ℕ → ℕ → Output
+resolveStringOf sheet path n = outputAnswer n (do
+  s ← orRefuse 3 (sheetOf sheet)
+  check 6 (all ascii path)
+  check 11 (leb (length (resolveString s path)) n)
+  accepted (resolveString s path))
+
+-- FIND A FILE: 2, 4. Kind: 0 absent, 1 folder, 2 file; a file's content stands at `start` in the bundle.
+pub record Found : Type 0 where
+  pub number : ℕ
+  pub kind : ℕ
+  pub start : ℕ
+  pub len : ℕ
+
+unfoldable pub foundEntry : Option Entry → Bool → Found
+foundEntry (some e) f = record { number = 0; kind = 2; start = e .start; len = length (e .content) }
+foundEntry none true = record { number = 0; kind = 1; start = 0; len = 0 }
+foundEntry none false = record { number = 0; kind = 0; start = 0; len = 0 }
+
+unfoldable pub foundAnswer : Answer Found → Found
+foundAnswer (refused k) = record { number = k; kind = 0; start = 0; len = 0 }
+foundAnswer (accepted f) = f
+
+unfoldable pub findFileOf : List ℕ → List ℕ → Found
+findFileOf bundle path = foundAnswer (do
+  es ← orRefuse 2 (bundleOf bundle)
+  check 4 (isPath path)
+  accepted (foundEntry (entryAt es path) (isFolderOf es path)))
+
+-- INCLUDES alone: 2, 4, 6, then in reading; a short output is 11. n: the length of `out`.
+unfoldable pub resolveIncludesOf : List ℕ → List ℕ → List ℕ → ℕ → Output
+resolveIncludesOf bundle folder text n = outputAnswer n (do
+  es ← orRefuse 2 (bundleOf bundle)
+  check 4 (isFolder folder)
+  check 6 (all ascii text)
+  x ← included (view es) 11 n folder text
+  accepted (x .0))
+
+-- An expansion's answer, with the output and the sheet that is left in buffers of n and l bytes.
+pub record Expanded : Type 0 where
+  pub number : ℕ
+  pub len : ℕ
+  pub sheetLen : ℕ
+  pub out : List ℕ
+  pub left : List ℕ
+
+unfoldable pub expandedAnswer : ℕ → ℕ → Answer (List ℕ × Records) → Expanded
+expandedAnswer n l (refused k) = record { number = k; len = 0; sheetLen = 0; out = zeros n; left = zeros l }
+expandedAnswer n l (accepted x) = record { number = 0; len = length (x .0); sheetLen = length (encode (x .1)); out = padded n (x .0); left = padded l (encode (x .1)) }
+
+-- EXPANSION alone: 2, 3, 6, then 9 for the sheet given, then in reading.
+unfoldable pub preprocessTypstOf : List ℕ → List ℕ → List ℕ → ℕ → ℕ → Expanded
+preprocessTypstOf bundle text sheet n l = expandedAnswer n l (do
+  es ← orRefuse 2 (bundleOf bundle)
+  s ← orRefuse 3 (sheetOf sheet)
+  check 6 (all ascii text)
+  check 9 (leb (length sheet) (limit l))
+  expanded (view es) (limit l) n s text)
+
+-- DEFINITIONS: 1, 2, 4, then 5, 6 for its own file, then in reading. l, w: the lengths of `left` and `work`.
+pub record Defined : Type 0 where
+  pub number : ℕ
+  pub sheetLen : ℕ
+  pub left : List ℕ
+  pub work : List ℕ
+
+unfoldable pub definedAnswer : ℕ → ℕ → Answer Records → Defined
+definedAnswer l w (refused k) = record { number = k; sheetLen = 0; left = zeros l; work = zeros w }
+definedAnswer l w (accepted s) = record { number = 0; sheetLen = length (encode s); left = padded l (encode s); work = zeros w }
+
+unfoldable pub parseDefinitionsOf : List ℕ → List ℕ → ℕ → ℕ → Defined
+parseDefinitionsOf bundle path l w = definedAnswer l w (do
+  check 1 (leb (16 * limit l) w)
+  es ← orRefuse 2 (bundleOf bundle)
+  c ← fetch (view es) path
+  definitions (limit l) (view es) (parent path) c)
+
+-- THE PASS: 2, 3, 4, 6, then 9 for the sheet given, then in reading. m, n, l: the lengths of `middle`, `out`, `left`.
+pub record Passed : Type 0 where
+  pub number : ℕ
+  pub len : ℕ
+  pub sheetLen : ℕ
+  pub closed : Bool
+  pub middle : List ℕ
+  pub out : List ℕ
+  pub left : List ℕ
+
+-- c: is the text closed.
+unfoldable pub passedAnswer : ℕ → ℕ → ℕ → Bool → Answer (List ℕ × Records) → Passed
+passedAnswer m n l c (refused k) = record { number = k; len = 0; sheetLen = 0; closed = false; middle = zeros m; out = zeros n; left = zeros l }
+passedAnswer m n l c (accepted x) = record { number = 0; len = length (x .0); sheetLen = length (encode (x .1)); closed = c; middle = zeros m; out = padded n (x .0); left = padded l (encode (x .1)) }
+
+-- Is the text closed, for a bundle, folder and sheet: none of 3, 4 and 6 for the arguments, and closed as section 6 says.
+unfoldable pub closedIn : Option (List Entry) → List ℕ → Option Records → List ℕ → Bool
+closedIn none folder s text = false
+closedIn (some es) folder none text = false
+closedIn (some es) folder (some s) text = isFolder folder && all ascii text && closed (view es) folder s text
+
+unfoldable pub closedOf : List ℕ → List ℕ → List ℕ → List ℕ → Bool
+closedOf bundle folder text sheet = closedIn (bundleOf bundle) folder (sheetOf sheet) text
+
+unfoldable pub passOf : List ℕ → List ℕ → List ℕ → List ℕ → ℕ → ℕ → ℕ → Passed
+passOf bundle folder text sheet m n l = passedAnswer m n l (closedOf bundle folder text sheet) (do
+  es ← orRefuse 2 (bundleOf bundle)
+  s ← orRefuse 3 (sheetOf sheet)
+  check 4 (isFolder folder)
+  check 6 (all ascii text)
+  check 9 (leb (length sheet) (limit l))
+  passed (view es) (limit l) m n folder s text)

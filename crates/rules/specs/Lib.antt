@@ -1,0 +1,17 @@
+pub mod Answer
+pub mod Reader
+pub mod Run
+pub mod Bytes
+pub mod Layout
+pub mod Bundle
+pub mod Files
+pub mod Sheet
+pub mod Strings
+pub mod Includes
+pub mod Expansion
+pub mod Pass
+pub mod Definitions
+pub mod Imports
+pub mod Calls
+pub mod Manual
+pub mod Compute
