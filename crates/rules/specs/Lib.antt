@@ -15,3 +15,4 @@ pub mod Imports
 pub mod Calls
 pub mod Manual
 pub mod Compute
+pub mod Laws
