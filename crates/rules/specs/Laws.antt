@@ -5,3 +5,7 @@ pub mod Read
 pub mod Steps
 pub mod Expansion
 pub mod Includes
+pub mod Texts
+pub mod Keep
+pub mod Middle
+pub mod Pass

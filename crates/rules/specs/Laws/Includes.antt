@@ -268,9 +268,14 @@ module _ (v : View) (inside : List ℕ → List ℕ → Emit) (g : List ℕ) whe
   unfolding includeStep mark prefix _>>=_ ifR copyByte
   include-alone h = refl
 
-  -- A closed text's middle text is empty or ends in newline, and its run ends where a new stretch begins.
-  pub includes-sealed : (a : List ℕ) → endsInNewline a ≡ true → calm (run (includeStep v inside g) [] 0 a) ≡ true →
+  run-sealed : (a : List ℕ) → endsInNewline a ≡ true → calm (run (includeStep v inside g) [] 0 a) ≡ true →
       (endsInNewline (written (run (includeStep v inside g) [] 0 a)) ≡ true) × (final (run (includeStep v inside g) [] 0 a) ≡ [])
-  includes-sealed a e c =
+  run-sealed a e c =
       let s = sealed (includeStep v inside g) include-alone (λ h x xs e₁ w o z. closes-includes h .closes (x ∷ xs) e₁ tt w o z) a [] 0 (omega arith) e c (λ z. refl) in
       (s .newline, s .clear)
+
+-- A closed text's middle text is empty or ends in newline, and its run ends where a new stretch begins.
+pub includes-sealed : (v : View) (g a : List ℕ) → endsInNewline a ≡ true → calm (includes v g a) ≡ true →
+    (endsInNewline (written (includes v g a)) ≡ true) × (final (includes v g a) ≡ [])
+unfolding includes
+includes-sealed v g a e c = run-sealed v (insideFile v 6) g a e c
