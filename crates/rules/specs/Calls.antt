@@ -35,11 +35,14 @@ unfoldable pub kindAnswer : Answer ℕ → Kind
 kindAnswer (refused k) = record { number = k; kind = 0 }
 kindAnswer (accepted c) = record { number = 0; kind = c }
 
-unfoldable pub resolveOf : List ℕ → List ℕ → Kind
-resolveOf sheet path = kindAnswer (do
+unfoldable pub resolveResult : List ℕ → List ℕ → Answer ℕ
+resolveResult sheet path = do
   s ← orRefuse 3 (sheetOf sheet)
   check 6 (all ascii path)
-  accepted (kindOf (resolve s path)))
+  accepted (kindOf (resolve s path))
+
+unfoldable pub resolveOf : List ℕ → List ℕ → Kind
+resolveOf sheet path = kindAnswer (resolveResult sheet path)
 
 -- An answer with one output buffer.
 pub record Output : Type 0 where
@@ -53,12 +56,15 @@ outputAnswer n (refused k) = record { number = k; len = 0; out = zeros n }
 outputAnswer n (accepted o) = record { number = 0; len = length o; out = padded n o }
 
 -- TEXT: 3, 6, 11. n: the length of `out`.
-unfoldable pub resolveStringOf : List ℕ → List ℕ → ℕ → Output
-resolveStringOf sheet path n = outputAnswer n (do
+unfoldable pub resolveStringResult : List ℕ → List ℕ → ℕ → Answer (List ℕ)
+resolveStringResult sheet path n = do
   s ← orRefuse 3 (sheetOf sheet)
   check 6 (all ascii path)
   check 11 (leb (length (resolveString s path)) n)
-  accepted (resolveString s path))
+  accepted (resolveString s path)
+
+unfoldable pub resolveStringOf : List ℕ → List ℕ → ℕ → Output
+resolveStringOf sheet path n = outputAnswer n (resolveStringResult sheet path n)
 
 -- FIND A FILE: 2, 4. Kind: 0 absent, 1 folder, 2 file; a file's content stands at `start` in the bundle.
 pub record Found : Type 0 where
@@ -76,20 +82,26 @@ unfoldable pub foundAnswer : Answer Found → Found
 foundAnswer (refused k) = record { number = k; kind = 0; start = 0; len = 0 }
 foundAnswer (accepted f) = f
 
-unfoldable pub findFileOf : List ℕ → List ℕ → Found
-findFileOf bundle path = foundAnswer (do
+unfoldable pub findFileResult : List ℕ → List ℕ → Answer Found
+findFileResult bundle path = do
   es ← orRefuse 2 (bundleOf bundle)
   check 4 (isPath path)
-  accepted (foundEntry (entryAt es path) (isFolderOf es path)))
+  accepted (foundEntry (entryAt es path) (isFolderOf es path))
+
+unfoldable pub findFileOf : List ℕ → List ℕ → Found
+findFileOf bundle path = foundAnswer (findFileResult bundle path)
 
 -- INCLUDES alone: 2, 4, 6, then in reading; a short output is 11. n: the length of `out`.
-unfoldable pub resolveIncludesOf : List ℕ → List ℕ → List ℕ → ℕ → Output
-resolveIncludesOf bundle folder text n = outputAnswer n (do
+unfoldable pub resolveIncludesResult : List ℕ → List ℕ → List ℕ → ℕ → Answer (List ℕ)
+resolveIncludesResult bundle folder text n = do
   es ← orRefuse 2 (bundleOf bundle)
   check 4 (isFolder folder)
   check 6 (all ascii text)
   x ← included (view es) 11 n folder text
-  accepted (x .0))
+  accepted (x .0)
+
+unfoldable pub resolveIncludesOf : List ℕ → List ℕ → List ℕ → ℕ → Output
+resolveIncludesOf bundle folder text n = outputAnswer n (resolveIncludesResult bundle folder text n)
 
 -- An expansion's answer, with the output and the sheet that is left in buffers of n and l bytes.
 pub record Expanded : Type 0 where
@@ -104,13 +116,16 @@ expandedAnswer n l (refused k) = record { number = k; len = 0; sheetLen = 0; out
 expandedAnswer n l (accepted x) = record { number = 0; len = length (x .0); sheetLen = length (encode (x .1)); out = padded n (x .0); left = padded l (encode (x .1)) }
 
 -- EXPANSION alone: 2, 3, 6, then 9 for the sheet given, then in reading.
-unfoldable pub preprocessTypstOf : List ℕ → List ℕ → List ℕ → ℕ → ℕ → Expanded
-preprocessTypstOf bundle text sheet n l = expandedAnswer n l (do
+unfoldable pub preprocessTypstResult : List ℕ → List ℕ → List ℕ → ℕ → ℕ → Answer (List ℕ × Records)
+preprocessTypstResult bundle text sheet n l = do
   es ← orRefuse 2 (bundleOf bundle)
   s ← orRefuse 3 (sheetOf sheet)
   check 6 (all ascii text)
   check 9 (leb (length sheet) (limit l))
-  expanded (view es) (limit l) n s text)
+  expanded (view es) (limit l) n s text
+
+unfoldable pub preprocessTypstOf : List ℕ → List ℕ → List ℕ → ℕ → ℕ → Expanded
+preprocessTypstOf bundle text sheet n l = expandedAnswer n l (preprocessTypstResult bundle text sheet n l)
 
 -- DEFINITIONS: 1, 2, 4, then 5, 6 for its own file, then in reading. l, w: the lengths of `left` and `work`.
 pub record Defined : Type 0 where
@@ -123,12 +138,15 @@ unfoldable pub definedAnswer : ℕ → ℕ → Answer Records → Defined
 definedAnswer l w (refused k) = record { number = k; sheetLen = 0; left = zeros l; work = zeros w }
 definedAnswer l w (accepted s) = record { number = 0; sheetLen = length (encode s); left = padded l (encode s); work = zeros w }
 
-unfoldable pub parseDefinitionsOf : List ℕ → List ℕ → ℕ → ℕ → Defined
-parseDefinitionsOf bundle path l w = definedAnswer l w (do
+unfoldable pub parseDefinitionsResult : List ℕ → List ℕ → ℕ → ℕ → Answer Records
+parseDefinitionsResult bundle path l w = do
   check 1 (leb (16 * limit l) w)
   es ← orRefuse 2 (bundleOf bundle)
   c ← fetch (view es) path
-  definitions (limit l) (view es) (parent path) c)
+  definitions (limit l) (view es) (parent path) c
+
+unfoldable pub parseDefinitionsOf : List ℕ → List ℕ → ℕ → ℕ → Defined
+parseDefinitionsOf bundle path l w = definedAnswer l w (parseDefinitionsResult bundle path l w)
 
 -- THE PASS: 2, 3, 4, 6, then 9 for the sheet given, then in reading. m, n, l: the lengths of `middle`, `out`, `left`.
 pub record Passed : Type 0 where
@@ -154,11 +172,14 @@ closedIn (some es) folder (some s) text = isFolder folder && all ascii text && c
 unfoldable pub closedOf : List ℕ → List ℕ → List ℕ → List ℕ → Bool
 closedOf bundle folder text sheet = closedIn (bundleOf bundle) folder (sheetOf sheet) text
 
-unfoldable pub passOf : List ℕ → List ℕ → List ℕ → List ℕ → ℕ → ℕ → ℕ → Passed
-passOf bundle folder text sheet m n l = passedAnswer m n l (closedOf bundle folder text sheet) (do
+unfoldable pub passResult : List ℕ → List ℕ → List ℕ → List ℕ → ℕ → ℕ → ℕ → Answer (List ℕ × Records)
+passResult bundle folder text sheet m n l = do
   es ← orRefuse 2 (bundleOf bundle)
   s ← orRefuse 3 (sheetOf sheet)
   check 4 (isFolder folder)
   check 6 (all ascii text)
   check 9 (leb (length sheet) (limit l))
-  passed (view es) (limit l) m n folder s text)
+  passed (view es) (limit l) m n folder s text
+
+unfoldable pub passOf : List ℕ → List ℕ → List ℕ → List ℕ → ℕ → ℕ → ℕ → Passed
+passOf bundle folder text sheet m n l = passedAnswer m n l (closedOf bundle folder text sheet) (passResult bundle folder text sheet m n l)

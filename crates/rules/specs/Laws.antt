@@ -9,3 +9,6 @@ pub mod Texts
 pub mod Keep
 pub mod Middle
 pub mod Pass
+pub mod Numbers
+pub mod Refusals
+pub mod Sheet

@@ -13,6 +13,7 @@ pub mod Pass
 pub mod Definitions
 pub mod Imports
 pub mod Calls
+pub mod Parts
 pub mod Manual
 pub mod Compute
 pub mod Laws
