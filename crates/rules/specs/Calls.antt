@@ -11,7 +11,7 @@ use Rattle.rules.specs.Reader.{all}
 use Rattle.rules.specs.Bytes.{ascii, isPath, isFolder, parent}
 use Rattle.rules.specs.Bundle.{Entry, bundleOf}
 use Rattle.rules.specs.Files.{entryAt, isFolderOf, view, fetch}
-use Rattle.rules.specs.Sheet.{Records, encode, sheetOf, resolve, resolveString, kindOf}
+use Rattle.rules.specs.Sheet.{Records, encode, sheetLength, sheetOf, resolve, resolveString, kindOf}
 use Rattle.rules.specs.Pass.{included, expanded, passed, closed}
 use Rattle.rules.specs.Imports.{definitions}
 
@@ -121,7 +121,7 @@ preprocessTypstResult bundle text sheet n l = do
   es ← orRefuse 2 (bundleOf bundle)
   s ← orRefuse 3 (sheetOf sheet)
   check 6 (all ascii text)
-  check 9 (leb (length sheet) (limit l))
+  check 9 (leb (sheetLength s) (limit l))
   expanded (view es) (limit l) n s text
 
 unfoldable pub preprocessTypstOf : List ℕ → List ℕ → List ℕ → ℕ → ℕ → Expanded
@@ -178,7 +178,7 @@ passResult bundle folder text sheet m n l = do
   s ← orRefuse 3 (sheetOf sheet)
   check 4 (isFolder folder)
   check 6 (all ascii text)
-  check 9 (leb (length sheet) (limit l))
+  check 9 (leb (sheetLength s) (limit l))
   passed (view es) (limit l) m n folder s text
 
 unfoldable pub passOf : List ℕ → List ℕ → List ℕ → List ℕ → ℕ → ℕ → ℕ → Passed

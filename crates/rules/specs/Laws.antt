@@ -12,3 +12,4 @@ pub mod Pass
 pub mod Numbers
 pub mod Refusals
 pub mod Sheet
+pub mod Parts

@@ -101,8 +101,8 @@ sure-linkEnd : (u : List ℕ) → Sure ended (linkEnd u)
 unfolding linkEnd linkBox ended lineBlank blank but
 sure-linkEnd u = sure-then ended (good-span blank) (sure-over ended ")" _ _ (unfold the in refl)
     (surein-then ended (line-span lineBlank refl) (surein-bind ended (line-sees (the "[")) (λ b. surein-if ended b
-      (surein-sure ended (sure-then ended good-skip (sure-bind ended (good-span (but "]")) (λ w. sure-close ended "]" _ (unfold the in refl) refl))))
-      (surein-ret ended (says true u)))))
+    (surein-sure ended (sure-then ended good-skip (sure-bind ended (good-span (but "]")) (λ w. sure-close ended "]" _ (unfold the in refl) refl))))
+    (surein-ret ended (says true u)))))
     (sure-then ended (good-span (but ")")) (sure-close ended ")" (λ e. says e u) (unfold the in refl) refl)))
 
 sure-link : (look : List ℕ → List ℕ) → Sure ended (link look)

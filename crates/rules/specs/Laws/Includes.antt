@@ -166,14 +166,16 @@ module _ (f : Step (List ℕ)) (alone : (h : List ℕ) → f h (10 ∷ []) .1 �
         newline = rw (s .nothing l, append-nil) (c .newline);
         something = λ _. rw (s .nothing l, append-nil) (c .something);
         nothing = λ z. absurd (omega arith);
-        clear = s .clear }
+        clear = s .clear;
+      }
   seal-step h x xs e w o s (no l) =
       let k = s .something (omega arith) in
       record {
         newline = newline-append (pieces (f h (x ∷ xs) .0 .emit)) _ k ∙ s .newline;
         something = λ _. some-append (pieces (f h (x ∷ xs) .0 .emit)) _ k;
         nothing = λ z. absurd (omega arith);
-        clear = s .clear }
+        clear = s .clear;
+      }
 
   sealed : (a h : List ℕ) (k : ℕ) → k ≤ length a → endsInNewline a ≡ true → calm (run f h k a) ≡ true → (length a ≤ k → h ≡ []) → Sealed h k a
   unfolding run written final calm endsInNewline
@@ -189,8 +191,8 @@ module _ (f : Step (List ℕ)) (alone : (h : List ℕ) → f h (10 ∷ []) .1 �
       let w : d .whole ≡ true = and-l _ (unrefused (d .emit)) wo in
       let o : unrefused (d .emit) ≡ true = and-r (d .whole) _ wo in
       seal-step h x xs e w o
-        (sealed xs (d .state) (length xs - length r) (omega arith) (newline-tail x xs e) (and-r (d .whole && unrefused (d .emit)) _ c) (λ q. close h x xs e w o (all-gone h x xs e q) .clear))
-        (decLe (length xs) (length xs - length r))
+      (sealed xs (d .state) (length xs - length r) (omega arith) (newline-tail x xs e) (and-r (d .whole && unrefused (d .emit)) _ c) (λ q. close h x xs e w o (all-gone h x xs e q) .clear))
+      (decLe (length xs) (length xs - length r))
 
 -- The law of a step that goes to the end.
 record Closes (r : Reader (Did (List ℕ))) : Type 0 where
@@ -222,8 +224,8 @@ fenced-last l (accepted c) o =
     let k : Some n = some-append (lastNewline c) (bytes "```\n") tt in
     let m : Some (bytes "\n" ++ (c ++ n)) = tt in
     let e : endsInNewline (bytes "```" ++ (l ++ (bytes "\n" ++ (c ++ n)))) ≡ true =
-          newline-append (bytes "```") (l ++ (bytes "\n" ++ (c ++ n))) (some-append l _ m) ∙ newline-append l (bytes "\n" ++ (c ++ n)) m
-            ∙ newline-append (bytes "\n") (c ++ n) (some-append c n k) ∙ newline-append c n k ∙ newline-append (lastNewline c) (bytes "```\n") tt in
+    newline-append (bytes "```") (l ++ (bytes "\n" ++ (c ++ n))) (some-append l _ m) ∙ newline-append l (bytes "\n" ++ (c ++ n)) m
+    ∙ newline-append (bytes "\n") (c ++ n) (some-append c n k) ∙ newline-append c n k ∙ newline-append (lastNewline c) (bytes "```\n") tt in
     record { newline = rw append-nil e; something = tt; clear = refl }
 
 closes-copyByte : (h : List ℕ) → Closes (copyByte h)

@@ -76,13 +76,15 @@ module _ (P : Records → Type 0) (small : Records → Bool)
 
   keeps-let : (s : Records) → P s → Keeps (letStep s)
   unfolding letStep _>>=_ _>>_ ret binds
-  keeps-let s p = record { keeps = λ t e l.
-      let t₁ = span lineBlank t .1 in
-      let n = span-all ascii nameByte t₁ (span-all ascii lineBlank t e .rest) in
-      let t₂ = span nameByte t₁ .1 in
-      let t₃ = span (either "=" lineBlank) t₂ .1 in
-      let e₃ = span-all ascii (either "=" lineBlank) t₂ (n .rest) .rest in
-      bound s (underscored (span nameByte t₁ .0)) (trim (span (but "\n") t₃ .0)) p (underscored-words _ (n .each)) (trim-all ascii _ (span-all ascii (but "\n") t₃ e₃ .stretch)) l }
+  keeps-let s p = record {
+    keeps = λ t e l.
+        let t₁ = span lineBlank t .1 in
+        let n = span-all ascii nameByte t₁ (span-all ascii lineBlank t e .rest) in
+        let t₂ = span nameByte t₁ .1 in
+        let t₃ = span (either "=" lineBlank) t₂ .1 in
+        let e₃ = span-all ascii (either "=" lineBlank) t₂ (n .rest) .rest in
+        bound s (underscored (span nameByte t₁ .0)) (trim (span (but "\n") t₃ .0)) p (underscored-words _ (n .each)) (trim-all ascii _ (span-all ascii (but "\n") t₃ e₃ .stretch)) l;
+  }
 
   keeps-step : (v : View) (s : Records) → P s → Keeps (expansionStep v s)
   unfolding expansionStep importStep callStep referenceStep

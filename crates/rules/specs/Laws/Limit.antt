@@ -96,7 +96,7 @@ module _ {S : Type 0} (size : S → ℕ) (L full : ℕ) where
   limited-mono (step d t) r r′ h a =
       let i = limited-inv r d t a in
       limited-intro r′ d t (i .here) (i .later) (i .small) (write-mono full (d .emit) r r′ h (i .wrote-here))
-        (limited-mono t (r - length (i .here)) (r′ - length (i .here)) (omega arith) (i .then-later)) ∙ ap accepted (i .whole-is)
+      (limited-mono t (r - length (i .here)) (r′ - length (i .here)) (omega arith) (i .then-later)) ∙ ap accepted (i .whole-is)
 
   -- What an accepted answer writes and leaves: what the run says, within the room.
   pub limited-text : (t : Trace S) (r : ℕ) {x : List ℕ × S} → limited size L full r t ≡ accepted x → x ≡ (written t, final t)
@@ -105,7 +105,7 @@ module _ {S : Type 0} (size : S → ℕ) (L full : ℕ) where
   limited-text (step d t) r a =
       let i = limited-inv r d t a in
       sym (i .whole-is) ∙ ap (λ z. (z ++ i .later .0, i .later .1)) (write-text full (d .emit) r (i .wrote-here))
-        ∙ ap (λ z. (pieces (d .emit) ++ z .0, z .1)) (limited-text t (r - length (i .here)) (i .then-later))
+      ∙ ap (λ z. (pieces (d .emit) ++ z .0, z .1)) (limited-text t (r - length (i .here)) (i .then-later))
 
   pub limited-fits : (t : Trace S) (r : ℕ) {x : List ℕ × S} → limited size L full r t ≡ accepted x → length (x .0) ≤ r
   unfolding limited
@@ -132,7 +132,8 @@ module _ {S : Type 0} (size : S → ℕ) (L full : ℕ) where
         second = ih .second;
         limited-first = limited-intro r d t (i .here) (ih .first, final t) (i .small) (i .wrote-here) (ih .limited-first);
         limited-second = rw (room r (i .here) (ih .first)) (ih .limited-second);
-        joined = rw append-assoc (sym (i .whole-is) ∙ ap (λ z. (i .here ++ z .0, z .1)) (ih .joined)) }
+        joined = rw append-assoc (sym (i .whole-is) ∙ ap (λ z. (i .here ++ z .0, z .1)) (ih .joined));
+      }
 
   pub limited-split : (t : Trace S) (k : S → Trace S) (r : ℕ) {x : List ℕ × S} → limited size L full r (joinRuns t k) ≡ accepted x → Parts t k r x
   unfolding limited joinRuns final

@@ -84,8 +84,8 @@ unfolding limited numberedT numbered isRefusal
 limited-numbered size L full q (fin s) r h = refl
 limited-numbered size L full q (step d t) r h =
     numbered-check 9 (leb (size (d .state)) L) _ refl
-      (numbered-bind (write full r (d .emit)) _ (write-numbered full q (d .emit) r (and-l (numberedE (d .emit)) (numberedT t) h))
-        (λ o. numbered-bind (limited size L full (r - length o) t) _ (limited-numbered size L full q t (r - length o) (and-r (numberedE (d .emit)) (numberedT t) h)) (λ p. refl)))
+    (numbered-bind (write full r (d .emit)) _ (write-numbered full q (d .emit) r (and-l (numberedE (d .emit)) (numberedT t) h))
+    (λ o. numbered-bind (limited size L full (r - length o) t) _ (limited-numbered size L full q t (r - length o) (and-r (numberedE (d .emit)) (numberedT t) h)) (λ p. refl)))
 
 numbered-content : (x : File) → numbered (contentOf x) ≡ true
 unfolding contentOf numbered isRefusal

@@ -40,7 +40,8 @@ module _ (v : View) where
         included-first = p .limited-first ∙ ap (λ z. accepted (p .first, z)) (s .1);
         included-second = limited-mono (λ h. 0) 0 full (includes v g c) (m - length (p .first)) m (omega arith) (ap (λ z. limited (λ h. 0) 0 full (m - length (p .first)) (run f z 0 c)) (sym (s .1)) ∙ p .limited-second);
         first-is = ap (λ z. z .0) (limited-text (λ h. 0) 0 full (includes v g a) m (p .limited-first));
-        both = p .joined }
+        both = p .joined;
+      }
 
   -- Expansion of a ++ c.
   record Expansions (L n : ℕ) (s : Records) (a c : List ℕ) (y : List ℕ × Records) : Type 0 where
@@ -61,7 +62,8 @@ module _ (v : View) where
         second = p .second;
         expanded-first = p .limited-first;
         expanded-second = limited-mono sheetLength L 11 (expansion v (final (expansion v s a)) c) (n - length (p .first)) n (omega arith) (p .limited-second);
-        both = p .joined }
+        both = p .joined;
+      }
 
   -- What two passes in a row say of one.
   pub record Passes (L m n : ℕ) (g : List ℕ) (s : Records) (a c : List ℕ) (y : List ℕ × Records) : Type 0 where
@@ -95,4 +97,5 @@ module _ (v : View) where
         second = x .second;
         passed-first = passed-intro L m n g s a (h .first, []) (h .included-first) (x .expanded-first);
         passed-second = passed-intro L m n g (x .sheet) c (h .second) (h .included-second) (x .expanded-second);
-        both = x .both }
+        both = x .both;
+      }

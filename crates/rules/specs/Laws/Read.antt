@@ -59,32 +59,36 @@ module _ {A B : Type 0} where
   pub good-bind : {m : Reader A} {f : A → Reader B} → Good m → ((a : A) → Good (f a)) → Good (m >>= f)
   unfolding _>>=_
   good-bind {m} {f} M F = record {
-      local = λ t b e h.
+    local = λ t b e h.
         let u = some-back (f (m t .0)) (F (m t .0)) (m t .1) h in
         rw (M .local t b e u) (F (m t .0) .local (m t .1) b (M .ends t e) h);
-      ends = λ t e. F (m t .0) .ends (m t .1) (M .ends t e);
-      nil = ap (λ (u : List ℕ). f (m [] .0) u .1) (M .nil) ∙ F (m [] .0) .nil }
+    ends = λ t e. F (m t .0) .ends (m t .1) (M .ends t e);
+    nil = ap (λ (u : List ℕ). f (m [] .0) u .1) (M .nil) ∙ F (m [] .0) .nil;
+  }
 
   pub good-then : {m : Reader A} {f : Reader B} → Good m → Good f → Good (m >> f)
   unfolding _>>_
   good-then {m} {f} M F = record {
-      local = λ t b e h.
+    local = λ t b e h.
         let u = some-back f F (m t .1) h in
         rw (M .local t b e u) (F .local (m t .1) b (M .ends t e) h);
-      ends = λ t e. F .ends (m t .1) (M .ends t e);
-      nil = ap (λ (u : List ℕ). f u .1) (M .nil) ∙ F .nil }
+    ends = λ t e. F .ends (m t .1) (M .ends t e);
+    nil = ap (λ (u : List ℕ). f u .1) (M .nil) ∙ F .nil;
+  }
 
   pub line-bind : {m : Reader A} {f : A → Reader B} → Line m → ((a : A) → Line (f a)) → Line (m >>= f)
   unfolding _>>=_
   line-bind {m} {f} M F = record {
-      good = good-bind (M .good) (λ a. F a .good);
-      some = λ t e h. F (m t .0) .some (m t .1) (M .good .ends t e) (M .some t e h) }
+    good = good-bind (M .good) (λ a. F a .good);
+    some = λ t e h. F (m t .0) .some (m t .1) (M .good .ends t e) (M .some t e h);
+  }
 
   pub line-then : {m : Reader A} {f : Reader B} → Line m → Line f → Line (m >> f)
   unfolding _>>_
   line-then {m} {f} M F = record {
-      good = good-then (M .good) (F .good);
-      some = λ t e h. F .some (m t .1) (M .good .ends t e) (M .some t e h) }
+    good = good-then (M .good) (F .good);
+    some = λ t e h. F .some (m t .1) (M .good .ends t e) (M .some t e h);
+  }
 
 module _ (p : ℕ → Bool) where
   span-ends-at : (x : ℕ) (xs : List ℕ) (c : Bool) → p x ≡ c → endsInNewline (span p xs .1) ≡ true → endsInNewline (x ∷ xs) ≡ true → endsInNewline (span p (x ∷ xs) .1) ≡ true
@@ -136,9 +140,11 @@ module _ (p : ℕ → Bool) where
       loc : (t b : List ℕ) → endsInNewline t ≡ true → Some (sees p t .1) → sees p (t ++ b) ≡ (sees p t .0, sees p t .1 ++ b)
       loc [] b e h = absurd h
       loc (x ∷ xs) b e h = refl
+
       en : (t : List ℕ) → endsInNewline t ≡ true → endsInNewline (sees p t .1) ≡ true
       en [] e = e
       en (x ∷ xs) e = e
+
       so : (t : List ℕ) → endsInNewline t ≡ true → Some t → Some (sees p t .1)
       so [] e h = absurd h
       so (x ∷ xs) e h = tt
@@ -150,6 +156,7 @@ good-skip = record { local = loc; ends = en; nil = refl }
     loc : (t b : List ℕ) → endsInNewline t ≡ true → Some (skip t .1) → skip (t ++ b) ≡ (skip t .0, skip t .1 ++ b)
     loc [] b e h = absurd h
     loc (x ∷ xs) b e h = refl
+
     en : (t : List ℕ) → endsInNewline t ≡ true → endsInNewline (skip t .1) ≡ true
     en [] e = e
     en (x ∷ xs) e = newline-tail x xs e
@@ -230,11 +237,13 @@ module _ (m : List ℕ) (i : inline m ≡ true) where
 
   pub line-mark : Line (mark m)
   line-mark = record {
-      good = record {
-        local = λ t b e h. mark-local t b e (mark-some-back t h);
-        ends = λ t e. mark-rest t (λ u. endsInNewline u ≡ true) (prefix m t) refl (λ h. newline-drop (length m) t e) e;
-        nil = mark-rest [] (λ u. u ≡ []) (prefix m []) refl (λ h. drop-nil (length m)) refl };
-      some = λ t e h. mark-rest t Some (prefix m t) refl (λ p. past-some m t p i e h) h }
+    good = record {
+      local = λ t b e h. mark-local t b e (mark-some-back t h);
+      ends = λ t e. mark-rest t (λ u. endsInNewline u ≡ true) (prefix m t) refl (λ h. newline-drop (length m) t e) e;
+      nil = mark-rest [] (λ u. u ≡ []) (prefix m []) refl (λ h. drop-nil (length m)) refl;
+    };
+    some = λ t e h. mark-rest t Some (prefix m t) refl (λ p. past-some m t p i e h) h;
+  }
 
 literal-local-at : (x : ℕ) (xs b : List ℕ) (c d : Bool) → the "\"" x ≡ c → the "\\" x ≡ d →
     ((v : Bool) → Some (literalFrom xs v .1) → literalFrom (xs ++ b) v ≡ (literalFrom xs v .0, literalFrom xs v .1 ++ b)) →
@@ -326,6 +335,7 @@ module _ {S A : Type 0} (f : S → Reader (Turn S A)) (d : S → A) (F : (s : S)
   pub good-rounds : (s : S) → Good (rounds f d s)
   unfolding rounds
   good-rounds s = record {
-      local = λ t b e h. loop-local (suc (length t)) (suc (length (t ++ b))) s t b (more-room t b) e h;
-      ends = λ t e. loop-ends (suc (length t)) s t e;
-      nil = loop-nil 1 s }
+    local = λ t b e h. loop-local (suc (length t)) (suc (length (t ++ b))) s t b (more-room t b) e h;
+    ends = λ t e. loop-ends (suc (length t)) s t e;
+    nil = loop-nil 1 s;
+  }

@@ -46,13 +46,17 @@ module _ {S : Type 0} where
 
   pub steps-bind : {A : Type 0} {m : Reader A} {f : A → Reader (Did S)} → Line m → ((a : A) → Steps (f a)) → Steps (m >>= f)
   unfolding _>>=_
-  steps-bind {m} {f} M F = record { steps = λ t b e k w o.
-      rw (M .good .local t b e (M .some t e k)) (F (m t .0) .steps (m t .1) b (M .good .ends t e) (M .some t e k) w o) }
+  steps-bind {m} {f} M F = record {
+    steps = λ t b e k w o.
+        rw (M .good .local t b e (M .some t e k)) (F (m t .0) .steps (m t .1) b (M .good .ends t e) (M .some t e k) w o);
+  }
 
   pub steps-then : {A : Type 0} {m : Reader A} {f : Reader (Did S)} → Line m → Steps f → Steps (m >> f)
   unfolding _>>_
-  steps-then {m} {f} M F = record { steps = λ t b e k w o.
-      rw (M .good .local t b e (M .some t e k)) (F .steps (m t .1) b (M .good .ends t e) (M .some t e k) w o) }
+  steps-then {m} {f} M F = record {
+    steps = λ t b e k w o.
+        rw (M .good .local t b e (M .some t e k)) (F .steps (m t .1) b (M .good .ends t e) (M .some t e k) w o);
+  }
 
 -- A run over a ++ b.
 module _ {S : Type 0} (f : Step S) (local : (s : S) → Steps (f s)) where

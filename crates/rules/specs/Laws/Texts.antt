@@ -43,9 +43,10 @@ module _ (q : ℕ → Bool) where
   span-all-at : (p : ℕ → Bool) (x : ℕ) (xs : List ℕ) (c : Bool) → p x ≡ c → all q (x ∷ xs) ≡ true → Spanned p xs → Spanned p (x ∷ xs)
   unfolding span all
   span-all-at p x xs true h e ih = record {
-      stretch = rw (h, span) (and-i (q x) _ (and-l (q x) (all q xs) e) (ih .stretch));
-      rest = rw (h, span) (ih .rest);
-      each = rw (h, span) (and-i (p x) _ h (ih .each)) }
+    stretch = rw (h, span) (and-i (q x) _ (and-l (q x) (all q xs) e) (ih .stretch));
+    rest = rw (h, span) (ih .rest);
+    each = rw (h, span) (and-i (p x) _ h (ih .each));
+  }
   span-all-at p x xs false h e ih = record { stretch = rw (h, span) refl; rest = rw (h, span) e; each = rw (h, span) refl }
 
   pub span-all : (p : ℕ → Bool) (t : List ℕ) → all q t ≡ true → Spanned p t

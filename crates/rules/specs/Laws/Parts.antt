@@ -1,0 +1,206 @@
+-- A list of passes beside one pass (01, demand 3).
+use mathlib.Core.Path.{_≡_, refl, sym, ap, _∙_}
+use mathlib.Core.List.{List, [], _∷_, _++_}
+use mathlib.Core.Bool.{Bool, true, false, _&&_, true≢false}
+use mathlib.Core.Option.{Option, none, some}
+use Prim.Native.Nat.{ℕ, _-_, _≤_, min}
+use native.Mathlib.Omega.{arith}
+use lib.Dec.{leb, eqb}
+use lib.ListN.{length, take, replicate}
+use lib.Seq.{take-append-seam}
+use Rattle.rules.specs.Answer.{Answer, refused, accepted, isRefusal, _>>=_, _>>_, check, orRefuse}
+use Rattle.rules.specs.Reader.{all}
+use Rattle.rules.specs.Run.{written, limited}
+use Rattle.rules.specs.Bytes.{ascii, word, isFolder}
+use Rattle.rules.specs.Bundle.{Entry, bundleOf}
+use Rattle.rules.specs.Files.{View, view}
+use Rattle.rules.specs.Sheet.{Value, text, Records, encode, sheetLength, sheetOf, goodValue, goodRecords, resolve, set}
+use Rattle.rules.specs.Includes.{includes}
+use Rattle.rules.specs.Expansion.{letValue, expansion}
+use Rattle.rules.specs.Pass.{included, expanded, passed, closed}
+use Rattle.rules.specs.Calls.{limit, zeros, padded, Passed, passedAnswer, closedIn, closedOf, passResult, passOf}
+use Rattle.rules.specs.Parts.{outputOf, sheetLeft, Setting, pass, isClosed, passes, closedParts, joined, allAccepted, outputs, lastSheet}
+use Rattle.rules.specs.Laws.Bool.{and-l, and-r, and-i, true-leb}
+use Rattle.rules.specs.Laws.Answer.{check-inv, check-true, bind-inv, bind-accepted, orRefuse-inv}
+use Rattle.rules.specs.Laws.Limit.{limited-text}
+use Rattle.rules.specs.Laws.Texts.{all-left, all-right}
+use Rattle.rules.specs.Laws.Includes.{append-nil}
+use Rattle.rules.specs.Laws.Middle.{middle-plain}
+use Rattle.rules.specs.Laws.Keep.{expansion-keeps}
+use Rattle.rules.specs.Laws.Sheet.{set-good, resolve-good, sheet-encode, sheet-good}
+use Rattle.rules.specs.Laws.Pass.{Passes, passed-split}
+use Rattle.rules.specs.Laws.Numbers.{numbered, numbered-check, numbered-orRefuse, numbered-bind, limited-numbered, zero-accepted}
+use Rattle.rules.specs.Laws.Refusals.{includes-numbered, expansion-numbered}
+
+-- THE SHEET THAT IS LEFT keeps the layout.
+let-good : (s : Records) (t : List ℕ) (x : Option Value) → resolve s t ≡ x → goodRecords s word 6 ≡ true → all ascii t ≡ true → goodValue (letValue t x) 6 ≡ true
+unfolding letValue goodValue
+let-good s t none q h e = e
+let-good s t (some w) q h e = resolve-good s word 6 t w h q
+
+-- Good records of at most L bytes.
+pub record Kept (L : ℕ) (s : Records) : Type 0 where
+  pub good : goodRecords s word 6 ≡ true
+  pub small : leb (sheetLength s) L ≡ true
+
+pub expanded-kept : (v : View) (L n : ℕ) (s : Records) (t : List ℕ) (y : List ℕ × Records) → all ascii t ≡ true → Kept L s → expanded v L n s t ≡ accepted y → Kept L (y .1)
+unfolding expanded
+expanded-kept v L n s t y e p a =
+    expansion-keeps v sheetLength L n (Kept L)
+    (λ z m u k w h l. record { good = set-good z word 6 m _ (k .good) w (let-good z u (resolve z u) refl (k .good) h); small = l }) s t y e p a
+
+included-plain : (v : View) (full m : ℕ) (g t : List ℕ) (x : List ℕ × List ℕ) → all ascii t ≡ true → included v full m g t ≡ accepted x → all ascii (x .0) ≡ true
+unfolding included
+included-plain v full m g t x e a = ap (λ z. all ascii (z .0)) (limited-text (λ h. 0) 0 full (includes v g t) m a) ∙ middle-plain v g t e
+
+passed-kept : (v : View) (L m n : ℕ) (g : List ℕ) (s : Records) (t : List ℕ) (y : List ℕ × Records) → all ascii t ≡ true → Kept L s → passed v L m n g s t ≡ accepted y → Kept L (y .1)
+unfolding passed
+passed-kept v L m n g s t y e p a =
+    let i = bind-inv (included v 10 m g t) _ a in
+    expanded-kept v L n s (i .0 .0) y (included-plain v 10 m g t (i .0) e (i .1)) p (i .2)
+
+limit-le : (l : ℕ) → limit l ≤ 65535
+unfolding limit
+limit-le l = omega arith
+
+-- Such records, as bytes, are a sheet.
+pub kept-sheet : (l : ℕ) (s : Records) → Kept (limit l) s → sheetOf (encode s) ≡ some s
+unfolding sheetLength
+kept-sheet l s k = sheet-encode s (k .good) (omega (arith, true-leb (sheetLength s) (limit l) (k .small), limit-le l))
+
+-- THE ARGUMENTS of an accepted pass.
+module _ (k : Setting) where
+  abbrev result : List ℕ → List ℕ → Answer (List ℕ × Records)
+  result s t = passResult (k .bundle) (k .folder) t s (k .middleLen) (k .outLen) (k .leftLen)
+
+  pub record Ran (sheet t : List ℕ) (y : List ℕ × Records) : Type 0 where
+    pub entries : List Entry
+    pub records : Records
+    pub bundle-is : bundleOf (k .bundle) ≡ some entries
+    pub sheet-is : sheetOf sheet ≡ some records
+    pub folder-good : isFolder (k .folder) ≡ true
+    pub text-good : all ascii t ≡ true
+    pub small : leb (sheetLength records) (limit (k .leftLen)) ≡ true
+    pub ran : passed (view entries) (limit (k .leftLen)) (k .middleLen) (k .outLen) (k .folder) records t ≡ accepted y
+
+  pub ran-inv : (sheet t : List ℕ) (y : List ℕ × Records) → result sheet t ≡ accepted y → Ran sheet t y
+  unfolding passResult
+  ran-inv sheet t y q =
+      let i₁ = bind-inv (orRefuse 2 (bundleOf (k .bundle))) _ q in
+      let i₂ = bind-inv (orRefuse 3 (sheetOf sheet)) _ (i₁ .2) in
+      let i₃ = check-inv 4 (isFolder (k .folder)) _ (i₂ .2) in
+      let i₄ = check-inv 6 (all ascii t) _ (i₃ .1) in
+      let i₅ = check-inv 9 (leb (sheetLength (i₂ .0)) (limit (k .leftLen))) _ (i₄ .1) in
+      record {
+        entries = i₁ .0;
+        records = i₂ .0;
+        bundle-is = orRefuse-inv 2 (bundleOf (k .bundle)) (i₁ .1);
+        sheet-is = orRefuse-inv 3 (sheetOf sheet) (i₂ .1);
+        folder-good = i₃ .0;
+        text-good = i₄ .0;
+        small = i₅ .0;
+        ran = i₅ .1;
+      }
+
+  pub ran-intro : (sheet t : List ℕ) (y : List ℕ × Records) → Ran sheet t y → result sheet t ≡ accepted y
+  unfolding passResult orRefuse check _>>=_ _>>_
+  ran-intro sheet t y r = rw (r .bundle-is, r .sheet-is, r .folder-good, r .text-good, r .small) (r .ran)
+
+  pub ran-kept : (sheet t : List ℕ) (y : List ℕ × Records) → Ran sheet t y → Kept (limit (k .leftLen)) (y .1)
+  ran-kept sheet t y r =
+      passed-kept (view (r .entries)) (limit (k .leftLen)) (k .middleLen) (k .outLen) (k .folder) (r .records) t y (r .text-good)
+      (record { good = sheet-good sheet (r .records) (r .sheet-is) .good; small = r .small }) (r .ran)
+
+  -- A closed text is closed for the records.
+  closed-inv : (sheet t : List ℕ) (es : List Entry) (s : Records) → bundleOf (k .bundle) ≡ some es → sheetOf sheet ≡ some s → isClosed k sheet t ≡ true → closed (view es) (k .folder) s t ≡ true
+  unfolding isClosed closedOf closedIn
+  closed-inv sheet t es s p q h =
+      let h₁ : (isFolder (k .folder) && all ascii t && closed (view es) (k .folder) s t) ≡ true = rw (p, q) at h in
+      and-r (isFolder (k .folder) && all ascii t) _ h₁
+
+  -- One pass over a ++ c is two passes, the second from the sheet that the first leaves.
+  record Two (sheet a c : List ℕ) (y : List ℕ × Records) : Type 0 where
+    first : List ℕ
+    records : Records
+    second : List ℕ × Records
+    result-first : result sheet a ≡ accepted (first, records)
+    result-second : result (encode records) c ≡ accepted second
+    both : y ≡ (first ++ second .0, second .1)
+
+  two-passes : (sheet a c : List ℕ) (y : List ℕ × Records) → isClosed k sheet a ≡ true → result sheet (a ++ c) ≡ accepted y → Two sheet a c y
+  two-passes sheet a c y h q =
+      let r = ran-inv sheet (a ++ c) y q in
+      let x = passed-split (view (r .entries)) (limit (k .leftLen)) (k .middleLen) (k .outLen) (k .folder) (r .records) a c y
+      (closed-inv sheet a (r .entries) (r .records) (r .bundle-is) (r .sheet-is) h) (r .ran) in
+      let r₁ : Ran sheet a (x .first, x .sheet) = record { entries = r .entries; records = r .records; bundle-is = r .bundle-is; sheet-is = r .sheet-is; folder-good = r .folder-good; text-good = all-left ascii a c (r .text-good); small = r .small; ran = x .passed-first } in
+      let p = ran-kept sheet a (x .first, x .sheet) r₁ in
+      record {
+        first = x .first;
+        records = x .sheet;
+        second = x .second;
+        result-first = ran-intro sheet a (x .first, x .sheet) r₁;
+        result-second = ran-intro (encode (x .sheet)) c (x .second) (record { entries = r .entries; records = x .sheet; bundle-is = r .bundle-is; sheet-is = kept-sheet (k .leftLen) (x .sheet) p; folder-good = r .folder-good; text-good = all-right ascii a c (r .text-good); small = p .small; ran = x .passed-second });
+        both = x .both;
+      }
+
+  -- THE ANSWER of a pass whose result is accepted.
+  pub record Answers (sheet t : List ℕ) (y : List ℕ × Records) : Type 0 where
+    pub number : pass k sheet t .number ≡ 0
+    pub output : outputOf (pass k sheet t) ≡ y .0
+    pub leaves : sheetLeft (pass k sheet t) ≡ encode (y .1)
+
+  pub answers : (sheet t : List ℕ) (y : List ℕ × Records) → result sheet t ≡ accepted y → Answers sheet t y
+  unfolding pass passOf passedAnswer outputOf sheetLeft padded
+  answers sheet t y q = record {
+    number = rw q refl;
+    output = rw q (take-append-seam (y .0) (zeros (k .outLen - length (y .0))));
+    leaves = rw q (take-append-seam (encode (y .1)) (zeros (k .leftLen - length (encode (y .1)))));
+  }
+
+  -- A list of answers: all accepted, with this output and this last sheet.
+  pub record Same (rs : List Passed) (o s : List ℕ) : Type 0 where
+    pub accepts : allAccepted rs ≡ true
+    pub output : outputs rs ≡ o
+    pub sheet : lastSheet rs ≡ s
+
+  same-one : (sheet p : List ℕ) (y : List ℕ × Records) → result sheet p ≡ accepted y → Same (passes k sheet p []) (y .0) (encode (y .1))
+  unfolding passes allAccepted outputs lastSheet all
+  same-one sheet p y q =
+      let a = answers sheet p y q in
+      record { accepts = rw (a .number) refl; output = append-nil _ ∙ a .output; sheet = a .leaves }
+
+  last-more : (r : Passed) (sheet q : List ℕ) (qs : List (List ℕ)) → lastSheet (r ∷ passes k sheet q qs) ≡ lastSheet (passes k sheet q qs)
+  unfolding passes lastSheet
+  last-more r sheet q [] = refl
+  last-more r sheet q (u ∷ us) = refl
+
+  same-more : (sheet p q : List ℕ) (qs : List (List ℕ)) (o : List ℕ) (s : Records) (y : List ℕ × Records) → result sheet p ≡ accepted (o, s) → Same (passes k (encode s) q qs) (y .0) (encode (y .1)) →
+      Same (passes k sheet p (q ∷ qs)) (o ++ y .0) (encode (y .1))
+  unfolding passes allAccepted outputs all
+  same-more sheet p q qs o s y h r =
+      let a = answers sheet p (o, s) h in
+      rw (a .leaves) (record {
+        accepts = rw (a .number) (r .accepts);
+        output = rw (a .output, r .output);
+        sheet = last-more (pass k sheet p) (encode s) q qs ∙ r .sheet;
+      })
+
+  pub one-is-many : (qs : List (List ℕ)) (sheet p : List ℕ) (y : List ℕ × Records) → result sheet (joined p qs) ≡ accepted y → closedParts k sheet p qs ≡ true → Same (passes k sheet p qs) (y .0) (encode (y .1))
+  unfolding joined closedParts
+  one-is-many [] sheet p y q c = same-one sheet p y q
+  one-is-many (r ∷ qs) sheet p y q c =
+      let x = two-passes sheet p (joined r qs) y (and-l (isClosed k sheet p) _ c) q in
+      let s = answers sheet p (x .first, x .records) (x .result-first) .leaves in
+      let c′ : closedParts k (encode (x .records)) r qs ≡ true = rw s at (and-r (isClosed k sheet p) _ c) in
+      rw (x .both) (same-more sheet p r qs (x .first) (x .records) (x .second) (x .result-first) (one-is-many qs (encode (x .records)) r (x .second) (x .result-second) c′))
+
+  -- THE NUMBER says whether the result is accepted.
+  pub result-numbered : (sheet t : List ℕ) → numbered (result sheet t) ≡ true
+  unfolding passResult passed included expanded isRefusal
+  result-numbered sheet t =
+      let L = limit (k .leftLen) in
+      numbered-bind (orRefuse 2 (bundleOf (k .bundle))) _ (numbered-orRefuse 2 _ refl) (λ es.
+      numbered-bind (orRefuse 3 (sheetOf sheet)) _ (numbered-orRefuse 3 _ refl) (λ s.
+      numbered-check 4 (isFolder (k .folder)) _ refl (numbered-check 6 (all ascii t) _ refl (numbered-check 9 (leb (sheetLength s) L) _ refl
+      (numbered-bind (included (view es) 10 (k .middleLen) (k .folder) t) _ (limited-numbered (λ h. 0) 0 10 refl (includes (view es) (k .folder) t) (k .middleLen) (includes-numbered (view es) (k .folder) t))
+      (λ x. limited-numbered sheetLength L 11 refl (expansion (view es) s (x .0)) (k .outLen) (expansion-numbered (view es) s (x .0))))))))
