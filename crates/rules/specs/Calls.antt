@@ -1,11 +1,12 @@
 -- The public calls (01, section 8). Each is one total function of its arguments and of the lengths of its buffers:
 -- the answer, and the whole final contents of every writable buffer, accepted and refused alike.
+use mathlib.Core.Path.{_≡_}
 use mathlib.Core.Bool.{Bool, true, false, _&&_}
 use mathlib.Core.List.{List, [], _∷_, _++_}
 use mathlib.Core.Option.{Option, none, some}
-use Prim.Native.Nat.{ℕ, _*_, _-_, min}
+use Prim.Native.Nat.{ℕ, _*_, _-_, _≤_, min}
 use lib.Dec.{leb}
-use lib.ListN.{length, replicate}
+use lib.ListN.{length, drop, replicate}
 use Rattle.rules.specs.Answer.{Answer, refused, accepted, _>>=_, _>>_, check, orRefuse}
 use Rattle.rules.specs.Reader.{all}
 use Rattle.rules.specs.Bytes.{ascii, isPath, isFolder, parent}
@@ -25,6 +26,12 @@ zeros n = replicate n 0
 
 unfoldable pub padded : ℕ → List ℕ → List ℕ
 padded n t = t ++ zeros (n - length t)
+
+-- A buffer of n bytes that holds a result of len bytes, and zero behind it.
+pub record Holds (n len : ℕ) (buffer : List ℕ) : Type 0 where
+  pub whole : length buffer ≡ n
+  pub fits : len ≤ n
+  pub behind : drop len buffer ≡ zeros (n - len)
 
 -- KIND: 3, 6.
 pub record Kind : Type 0 where

@@ -13,3 +13,5 @@ pub mod Numbers
 pub mod Refusals
 pub mod Sheet
 pub mod Parts
+pub mod Once
+pub mod Calls

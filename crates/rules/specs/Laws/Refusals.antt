@@ -19,29 +19,29 @@ use Rattle.rules.specs.Definitions
 use Rattle.rules.specs.Laws.Numbers.{numbered, numberedE, numberedT, numberedE-andThen, run-numbered, emitted-numbered, numbered-fetch, numbered-opened}
 
 -- What a reader answers has q.
-record Yields {A : Type 0} (q : A → Bool) (r : Reader A) : Type 0 where
-  yields : (t : List ℕ) → q (r t .0) ≡ true
+pub record Yields {A : Type 0} (q : A → Bool) (r : Reader A) : Type 0 where
+  pub yields : (t : List ℕ) → q (r t .0) ≡ true
 
 module _ {A : Type 0} (q : A → Bool) where
-  yields-ret : (a : A) → q a ≡ true → Yields q (ret a)
+  pub yields-ret : (a : A) → q a ≡ true → Yields q (ret a)
   unfolding ret
   yields-ret a h = record { yields = λ t. h }
 
-  yields-if : (c : Bool) {r p : Reader A} → Yields q r → Yields q p → Yields q (ifR c r p)
+  pub yields-if : (c : Bool) {r p : Reader A} → Yields q r → Yields q p → Yields q (ifR c r p)
   unfolding ifR
   yields-if true g k = g
   yields-if false g k = k
 
-  yields-bind : {C : Type 0} (m : Reader C) {f : C → Reader A} → ((a : C) → Yields q (f a)) → Yields q (m >>= f)
+  pub yields-bind : {C : Type 0} (m : Reader C) {f : C → Reader A} → ((a : C) → Yields q (f a)) → Yields q (m >>= f)
   unfolding _>>=_
   yields-bind m F = record { yields = λ t. F (m t .0) .yields (m t .1) }
 
   -- Where what was read before has p.
-  yields-with : {C : Type 0} (p : C → Bool) {m : Reader C} {f : C → Reader A} → Yields p m → ((a : C) → p a ≡ true → Yields q (f a)) → Yields q (m >>= f)
+  pub yields-with : {C : Type 0} (p : C → Bool) {m : Reader C} {f : C → Reader A} → Yields p m → ((a : C) → p a ≡ true → Yields q (f a)) → Yields q (m >>= f)
   unfolding _>>=_
   yields-with p {m} M F = record { yields = λ t. F (m t .0) (M .yields t) .yields (m t .1) }
 
-  yields-then : {C : Type 0} (m : Reader C) {f : Reader A} → Yields q f → Yields q (m >> f)
+  pub yields-then : {C : Type 0} (m : Reader C) {f : Reader A} → Yields q f → Yields q (m >> f)
   unfolding _>>_
   yields-then m F = record { yields = λ t. F .yields (m t .1) }
 

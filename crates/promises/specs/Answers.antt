@@ -1,0 +1,44 @@
+-- What every answer of a public call says (01, sections 6 and 8).
+use mathlib.Core.Path.{_≡_, refl}
+use mathlib.Core.Logic.{_≢_, _↔_}
+use mathlib.Core.List.{List}
+use mathlib.Core.Bool.{Bool, true, false}
+use mathlib.Core.Option.{some}
+use Prim.Native.Nat.{ℕ, _≤_}
+use Rattle.rules.specs.Calls.{zeros, Holds, resolveResult, resolveOf, kindAnswer, Kind, resolveStringResult, resolveStringOf, outputAnswer, Output, findFileOf, foundAnswer, Found, resolveIncludesResult, resolveIncludesOf, preprocessTypstResult, preprocessTypstOf, expandedAnswer, Expanded, parseDefinitionsResult, parseDefinitionsOf, definedAnswer, Defined, passResult, passOf, passedAnswer, Passed, closedOf}
+use Rattle.rules.specs.Sheet.{Records, sheetOf}
+use Rattle.rules.specs.Parts.{Setting, pass, isClosed, sheetLeft}
+use Rattle.rules.specs.Laws.Calls.{refused-form, resolveString-holds, resolveIncludes-holds, preprocessTypst-holds, HoldsBoth, pass-holds, pass-middle, pass-closed, Order, order}
+
+-- CLOSED. The answer says closed exactly when the pass is accepted and the text is closed.
+pub closed-exactly : (k : Setting) (sheet text : List ℕ) → (pass k sheet text .closed ≡ true) ↔ ((pass k sheet text .number ≡ 0) × (isClosed k sheet text ≡ true))
+closed-exactly k sheet text = pass-closed k sheet text
+
+-- REFUSED: the number, every length zero, kind missing, not closed, every writable buffer zero.
+pub resolve-refused : (sheet path : List ℕ) → let r = resolveOf sheet path in r .number ≢ 0 → r ≡ record { number = r .number; kind = 0 }
+unfolding resolveOf kindAnswer
+resolve-refused sheet path h = refused-form kindAnswer (λ r. r .number) (λ k. refl) (λ a. refl) (resolveResult sheet path) h
+
+pub resolve-string-refused : (sheet path : List ℕ) (n : ℕ) → let r = resolveStringOf sheet path n in r .number ≢ 0 → r ≡ record { number = r .number; len = 0; out = zeros n }
+unfolding resolveStringOf outputAnswer
+resolve-string-refused sheet path n h = refused-form (outputAnswer n) (λ r. r .number) (λ k. refl) (λ a. refl) (resolveStringResult sheet path n) h
+
+pub resolve-includes-refused : (bundle folder text : List ℕ) (n : ℕ) → let r = resolveIncludesOf bundle folder text n in r .number ≢ 0 → r ≡ record { number = r .number; len = 0; out = zeros n }
+unfolding resolveIncludesOf outputAnswer
+resolve-includes-refused bundle folder text n h = refused-form (outputAnswer n) (λ r. r .number) (λ k. refl) (λ a. refl) (resolveIncludesResult bundle folder text n) h
+
+pub preprocess-typst-refused : (bundle text sheet : List ℕ) (n l : ℕ) → let r = preprocessTypstOf bundle text sheet n l in
+    r .number ≢ 0 → r ≡ record { number = r .number; len = 0; sheetLen = 0; out = zeros n; left = zeros l }
+unfolding preprocessTypstOf expandedAnswer
+preprocess-typst-refused bundle text sheet n l h = refused-form (expandedAnswer n l) (λ r. r .number) (λ k. refl) (λ a. refl) (preprocessTypstResult bundle text sheet n l) h
+
+pub parse-definitions-refused : (bundle path : List ℕ) (l w : ℕ) → let r = parseDefinitionsOf bundle path l w in
+    r .number ≢ 0 → r ≡ record { number = r .number; sheetLen = 0; left = zeros l; work = zeros w }
+unfolding parseDefinitionsOf definedAnswer
+parse-definitions-refused bundle path l w h = refused-form (definedAnswer l w) (λ r. r .number) (λ k. refl) (λ a. refl) (parseDefinitionsResult bundle path l w) h
+
+pub pass-refused : (bundle folder text sheet : List ℕ) (m n l : ℕ) → let r = passOf bundle folder text sheet m n l in
+    r .number ≢ 0 → r ≡ record { number = r .number; len = 0; sheetLen = 0; closed = false; middle = zeros m; out = zeros n; left = zeros l }
+unfolding passOf passedAnswer
+pass-refused bundle folder text sheet m n l h =
+    refused-form (passedAnswer m n l (closedOf bundle folder text sheet)) (λ r. r .number) (λ k. refl) (λ a. refl) (passResult bundle folder text sheet m n l) h

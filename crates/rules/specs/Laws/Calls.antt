@@ -1,0 +1,199 @@
+-- The public calls: what a refused one answers, what each buffer holds, the order of the argument refusals.
+use mathlib.Core.Path.{_≡_, refl, sym, ap, _∙_}
+use mathlib.Core.Logic.{_≢_, _↔_}
+use mathlib.Core.List.{List, [], _∷_, _++_}
+use mathlib.Core.Bool.{Bool, true, false, _&&_, true≢false}
+use mathlib.Core.Option.{Option, none, some}
+use Prim.Native.Nat.{ℕ, _+_, _-_, _*_, _≤_, min}
+use native.Mathlib.Omega.{arith}
+use native.Mathlib.Nat.{sub-zero}
+use lib.Dec.{leb}
+use lib.ListN.{length, take, drop, replicate, length-append, length-replicate}
+use lib.Seq.{drop-append-seam}
+use Rattle.rules.specs.Answer.{Answer, refused, accepted, isRefusal, _>>=_, _>>_, check, orRefuse}
+use Rattle.rules.specs.Reader.{all}
+use Rattle.rules.specs.Run.{limited}
+use Rattle.rules.specs.Bytes.{ascii, word, isPath, isFolder}
+use Rattle.rules.specs.Bundle.{Entry, bundleOf}
+use Rattle.rules.specs.Files.{View, view, fetch}
+use Rattle.rules.specs.Sheet.{Records, encode, sheetLength, sheetOf, resolveString}
+use Rattle.rules.specs.Includes.{includes}
+use Rattle.rules.specs.Expansion.{expansion}
+use Rattle.rules.specs.Pass.{included, expanded, passed, closed}
+use Rattle.rules.specs.Calls.{limit, zeros, padded, Holds, Output, outputAnswer, resolveStringResult, resolveStringOf, resolveIncludesResult, resolveIncludesOf, Expanded, expandedAnswer, preprocessTypstResult, preprocessTypstOf, Passed, passedAnswer, closedIn, closedOf, passResult, passOf}
+use Rattle.rules.specs.Parts.{Setting, pass, isClosed}
+use Rattle.rules.specs.Laws.Bool.{and-l, and-r, true-leb}
+use Rattle.rules.specs.Laws.Answer.{not-both, accepted-same, check-inv, bind-inv, orRefuse-inv}
+use Rattle.rules.specs.Laws.Limit.{limited-fits}
+use Rattle.rules.specs.Laws.Sheet.{sheet-good}
+use Rattle.rules.specs.Laws.Numbers.{numbered, zero-accepted}
+use Rattle.rules.specs.Laws.Parts.{Kept, expanded-kept, Ran, ran-inv, ran-kept, result-numbered}
+
+-- FORMS. `form` makes a call's answer of its result: a number other than 0 is a refusal, and 0 is an acceptance.
+module _ {A R : Type 0} (form : Answer A → R) (number : R → ℕ) (of-refused : (k : ℕ) → number (form (refused k)) ≡ k) (of-accepted : (a : A) → number (form (accepted a)) ≡ 0) where
+  pub refused-form : (x : Answer A) → number (form x) ≢ 0 → form x ≡ form (refused (number (form x)))
+  refused-form (refused k) h = ap (λ z. form (refused z)) (sym (of-refused k))
+  refused-form (accepted a) h = absurd (h (of-accepted a))
+
+  pub accepted-form : (x : Answer A) → numbered x ≡ true → number (form x) ≡ 0 → (a : A) × (x ≡ accepted a)
+  accepted-form (refused k) n h = absurd (zero-accepted (refused k) n (ap refused (sym (of-refused k) ∙ h)))
+  accepted-form (accepted a) n h = (a, refl)
+
+-- BUFFERS. A padded result, and an empty one.
+holds-padded : (n : ℕ) (o : List ℕ) → length o ≤ n → Holds n (length o) (padded n o)
+unfolding padded zeros
+holds-padded n o h = record {
+  whole = simp (length-append, length-replicate) (omega arith);
+  fits = h;
+  behind = drop-append-seam o (replicate (n - length o) 0);
+}
+
+holds-zeros : (n : ℕ) → Holds n 0 (zeros n)
+unfolding zeros
+holds-zeros n = record { whole = length-replicate n 0; fits = omega arith; behind = rw sub-zero }
+
+holds-output : (n : ℕ) (x : Answer (List ℕ)) → ((o : List ℕ) → x ≡ accepted o → length o ≤ n) → Holds n (outputAnswer n x .len) (outputAnswer n x .out)
+unfolding outputAnswer
+holds-output n (refused k) h = holds-zeros n
+holds-output n (accepted o) h = holds-padded n o (h o refl)
+
+-- What the sheet buffer's length says of L.
+limit-le : (l : ℕ) → limit l ≤ l
+unfolding limit
+limit-le l = omega arith
+
+kept-fits : (l : ℕ) (s : Records) → Kept (limit l) s → length (encode s) ≤ l
+unfolding sheetLength
+kept-fits l s k = omega (arith, true-leb (sheetLength s) (limit l) (k .small), limit-le l)
+
+-- TEXT.
+resolveString-fits : (sheet path : List ℕ) (n : ℕ) (o : List ℕ) → resolveStringResult sheet path n ≡ accepted o → length o ≤ n
+unfolding resolveStringResult
+resolveString-fits sheet path n o q =
+    let i = bind-inv (orRefuse 3 (sheetOf sheet)) _ q in
+    let j = check-inv 6 (all ascii path) _ (i .2) in
+    let m = check-inv 11 (leb (length (resolveString (i .0) path)) n) _ (j .1) in
+    let e : length (resolveString (i .0) path) ≡ length o = ap length (accepted-same (m .1)) in
+    omega (arith, true-leb (length (resolveString (i .0) path)) n (m .0))
+
+pub resolveString-holds : (sheet path : List ℕ) (n : ℕ) → Holds n (resolveStringOf sheet path n .len) (resolveStringOf sheet path n .out)
+unfolding resolveStringOf
+resolveString-holds sheet path n = holds-output n (resolveStringResult sheet path n) (resolveString-fits sheet path n)
+
+-- INCLUDES.
+resolveIncludes-fits : (bundle folder text : List ℕ) (n : ℕ) (o : List ℕ) → resolveIncludesResult bundle folder text n ≡ accepted o → length o ≤ n
+unfolding resolveIncludesResult included
+resolveIncludes-fits bundle folder text n o q =
+    let i = bind-inv (orRefuse 2 (bundleOf bundle)) _ q in
+    let j = check-inv 4 (isFolder folder) _ (i .2) in
+    let m = check-inv 6 (all ascii text) _ (j .1) in
+    let x = bind-inv (included (view (i .0)) 11 n folder text) _ (m .1) in
+    let e : length (x .0 .0) ≡ length o = ap length (accepted-same (x .2)) in
+    omega (arith, limited-fits (λ h. 0) 0 11 (includes (view (i .0)) folder text) n (x .1))
+
+pub resolveIncludes-holds : (bundle folder text : List ℕ) (n : ℕ) → Holds n (resolveIncludesOf bundle folder text n .len) (resolveIncludesOf bundle folder text n .out)
+unfolding resolveIncludesOf
+resolveIncludes-holds bundle folder text n = holds-output n (resolveIncludesResult bundle folder text n) (resolveIncludes-fits bundle folder text n)
+
+-- EXPANSION. An accepted one: its output fits, and the sheet left keeps the layout and L.
+expanded-fits : (v : View) (L n : ℕ) (s : Records) (t : List ℕ) (y : List ℕ × Records) → expanded v L n s t ≡ accepted y → length (y .0) ≤ n
+unfolding expanded
+expanded-fits v L n s t y q = limited-fits sheetLength L 11 (expansion v s t) n q
+
+record Ready (n l : ℕ) (y : List ℕ × Records) : Type 0 where
+  output : length (y .0) ≤ n
+  sheet : Kept (limit l) (y .1)
+
+preprocessTypst-ready : (bundle text sheet : List ℕ) (n l : ℕ) (y : List ℕ × Records) → preprocessTypstResult bundle text sheet n l ≡ accepted y → Ready n l y
+unfolding preprocessTypstResult
+preprocessTypst-ready bundle text sheet n l y q =
+    let i = bind-inv (orRefuse 2 (bundleOf bundle)) _ q in
+    let j = bind-inv (orRefuse 3 (sheetOf sheet)) _ (i .2) in
+    let m = check-inv 6 (all ascii text) _ (j .2) in
+    let w = check-inv 9 (leb (sheetLength (j .0)) (limit l)) _ (m .1) in
+    let g = sheet-good sheet (j .0) (orRefuse-inv 3 (sheetOf sheet) (j .1)) in
+    record {
+      output = expanded-fits (view (i .0)) (limit l) n (j .0) text y (w .1);
+      sheet = expanded-kept (view (i .0)) (limit l) n (j .0) text y (m .0) (record { good = g .good; small = w .0 }) (w .1);
+    }
+
+-- Both buffers of an expansion.
+pub record HoldsBoth (n l len sheetLen : ℕ) (out left : List ℕ) : Type 0 where
+  pub output : Holds n len out
+  pub sheet : Holds l sheetLen left
+
+expanded-holds : (n l : ℕ) (x : Answer (List ℕ × Records)) → ((y : List ℕ × Records) → x ≡ accepted y → Ready n l y) →
+    HoldsBoth n l (expandedAnswer n l x .len) (expandedAnswer n l x .sheetLen) (expandedAnswer n l x .out) (expandedAnswer n l x .left)
+unfolding expandedAnswer
+expanded-holds n l (refused k) h = record { output = holds-zeros n; sheet = holds-zeros l }
+expanded-holds n l (accepted y) h = let r = h y refl in record { output = holds-padded n (y .0) (r .output); sheet = holds-padded l (encode (y .1)) (kept-fits l (y .1) (r .sheet)) }
+
+pub preprocessTypst-holds : (bundle text sheet : List ℕ) (n l : ℕ) → let r = preprocessTypstOf bundle text sheet n l in HoldsBoth n l (r .len) (r .sheetLen) (r .out) (r .left)
+unfolding preprocessTypstOf
+preprocessTypst-holds bundle text sheet n l = expanded-holds n l (preprocessTypstResult bundle text sheet n l) (preprocessTypst-ready bundle text sheet n l)
+
+-- THE PASS.
+module _ (k : Setting) where
+  abbrev result : List ℕ → List ℕ → Answer (List ℕ × Records)
+  result s t = passResult (k .bundle) (k .folder) t s (k .middleLen) (k .outLen) (k .leftLen)
+
+  pass-ready : (sheet t : List ℕ) (y : List ℕ × Records) → result sheet t ≡ accepted y → Ready (k .outLen) (k .leftLen) y
+  unfolding passed
+  pass-ready sheet t y q =
+      let r = ran-inv k sheet t y q in
+      let i = bind-inv (included (view (r .entries)) 10 (k .middleLen) (k .folder) t) _ (r .ran) in
+      record { output = expanded-fits (view (r .entries)) (limit (k .leftLen)) (k .outLen) (r .records) (i .0 .0) y (i .2); sheet = ran-kept k sheet t y r }
+
+  passed-holds : (c : Bool) (x : Answer (List ℕ × Records)) → ((y : List ℕ × Records) → x ≡ accepted y → Ready (k .outLen) (k .leftLen) y) →
+      let r = passedAnswer (k .middleLen) (k .outLen) (k .leftLen) c x in HoldsBoth (k .outLen) (k .leftLen) (r .len) (r .sheetLen) (r .out) (r .left)
+  unfolding passedAnswer
+  passed-holds c (refused n) h = record { output = holds-zeros (k .outLen); sheet = holds-zeros (k .leftLen) }
+  passed-holds c (accepted y) h = let r = h y refl in record { output = holds-padded (k .outLen) (y .0) (r .output); sheet = holds-padded (k .leftLen) (encode (y .1)) (kept-fits (k .leftLen) (y .1) (r .sheet)) }
+
+  pub pass-holds : (sheet t : List ℕ) → HoldsBoth (k .outLen) (k .leftLen) (pass k sheet t .len) (pass k sheet t .sheetLen) (pass k sheet t .out) (pass k sheet t .left)
+  unfolding pass passOf
+  pass-holds sheet t = passed-holds (closedOf (k .bundle) (k .folder) t sheet) (result sheet t) (pass-ready sheet t)
+
+  -- The middle buffer is zero, accepted and refused.
+  passed-middle : (c : Bool) (x : Answer (List ℕ × Records)) → passedAnswer (k .middleLen) (k .outLen) (k .leftLen) c x .middle ≡ zeros (k .middleLen)
+  unfolding passedAnswer
+  passed-middle c (refused n) = refl
+  passed-middle c (accepted y) = refl
+
+  pub pass-middle : (sheet t : List ℕ) → pass k sheet t .middle ≡ zeros (k .middleLen)
+  unfolding pass passOf
+  pass-middle sheet t = passed-middle (closedOf (k .bundle) (k .folder) t sheet) (result sheet t)
+
+  -- A number 0 is an acceptance.
+  pub pass-accepted : (sheet t : List ℕ) → pass k sheet t .number ≡ 0 → (y : List ℕ × Records) × (result sheet t ≡ accepted y)
+  unfolding pass passOf passedAnswer isClosed
+  pass-accepted sheet t h =
+      accepted-form (passedAnswer (k .middleLen) (k .outLen) (k .leftLen) (isClosed k sheet t)) (λ r. r .number) (λ n. refl) (λ y. refl) (result sheet t) (result-numbered k sheet t) h
+
+  -- Closed: accepted, and the text is closed.
+  closed-at : (c : Bool) (x : Answer (List ℕ × Records)) → numbered x ≡ true → let r = passedAnswer (k .middleLen) (k .outLen) (k .leftLen) c x in (r .closed ≡ true) ↔ ((r .number ≡ 0) × (c ≡ true))
+  unfolding passedAnswer
+  closed-at c (refused n) m = (λ h. absurd (true≢false (sym h)), λ h. absurd (zero-accepted (refused n) m (ap refused (h .0))))
+  closed-at c (accepted y) m = (λ h. (refl, h), λ h. h .1)
+
+  pub pass-closed : (sheet t : List ℕ) → (pass k sheet t .closed ≡ true) ↔ ((pass k sheet t .number ≡ 0) × (isClosed k sheet t ≡ true))
+  unfolding pass passOf isClosed
+  pass-closed sheet t = closed-at (closedOf (k .bundle) (k .folder) t sheet) (result sheet t) (result-numbered k sheet t)
+
+  -- THE ORDER of the argument refusals: 2, 3, 4, 6, 9.
+  pub record Order (sheet t : List ℕ) : Type 0 where
+    pub bundle-first : bundleOf (k .bundle) ≡ none → result sheet t ≡ refused 2
+    pub then-sheet : (es : List Entry) → bundleOf (k .bundle) ≡ some es → sheetOf sheet ≡ none → result sheet t ≡ refused 3
+    pub then-folder : (es : List Entry) (s : Records) → bundleOf (k .bundle) ≡ some es → sheetOf sheet ≡ some s → isFolder (k .folder) ≡ false → result sheet t ≡ refused 4
+    pub then-text : (es : List Entry) (s : Records) → bundleOf (k .bundle) ≡ some es → sheetOf sheet ≡ some s → isFolder (k .folder) ≡ true → all ascii t ≡ false → result sheet t ≡ refused 6
+    pub then-limit : (es : List Entry) (s : Records) → bundleOf (k .bundle) ≡ some es → sheetOf sheet ≡ some s → isFolder (k .folder) ≡ true → all ascii t ≡ true → leb (sheetLength s) (limit (k .leftLen)) ≡ false → result sheet t ≡ refused 9
+
+  pub order : (sheet t : List ℕ) → Order sheet t
+  unfolding passResult orRefuse check _>>=_ _>>_
+  order sheet t = record {
+    bundle-first = λ b. rw b;
+    then-sheet = λ es b s. rw (b, s);
+    then-folder = λ es r b s f. rw (b, s, f);
+    then-text = λ es r b s f a. rw (b, s, f, a);
+    then-limit = λ es r b s f a l. rw (b, s, f, a, l);
+  }
