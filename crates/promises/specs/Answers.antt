@@ -5,10 +5,14 @@ use mathlib.Core.List.{List}
 use mathlib.Core.Bool.{Bool, true, false}
 use mathlib.Core.Option.{some}
 use Prim.Native.Nat.{ℕ, _≤_}
-use Rattle.rules.specs.Calls.{zeros, Holds, resolveResult, resolveOf, kindAnswer, Kind, resolveStringResult, resolveStringOf, outputAnswer, Output, findFileOf, foundAnswer, Found, resolveIncludesResult, resolveIncludesOf, preprocessTypstResult, preprocessTypstOf, expandedAnswer, Expanded, parseDefinitionsResult, parseDefinitionsOf, definedAnswer, Defined, passResult, passOf, passedAnswer, Passed, closedOf}
+use Rattle.rules.specs.Calls.{limit, zeros, Holds, resolveResult, resolveOf, kindAnswer, Kind, resolveStringResult, resolveStringOf, outputAnswer, Output, findFileOf, foundAnswer, Found, resolveIncludesResult, resolveIncludesOf, preprocessTypstResult, preprocessTypstOf, expandedAnswer, Expanded, parseDefinitionsResult, parseDefinitionsOf, definedAnswer, Defined, passResult, passOf, passedAnswer, Passed, closedOf}
+use Rattle.rules.specs.Files.{View}
 use Rattle.rules.specs.Sheet.{Records, sheetOf}
+use Rattle.rules.specs.Expansion.{expansionStep}
 use Rattle.rules.specs.Parts.{Setting, pass, isClosed, sheetLeft}
-use Rattle.rules.specs.Laws.Calls.{refused-form, resolveString-holds, resolveIncludes-holds, preprocessTypst-holds, HoldsBoth, pass-holds, pass-middle, pass-closed, Order, order}
+use Rattle.rules.specs.Laws.Calls.{refused-form, resolveString-holds, resolveIncludes-holds, preprocessTypst-holds, HoldsBoth, pass-holds, pass-middle, pass-closed, find-refused, Sheet, pass-sheet}
+use Rattle.rules.specs.Laws.Order.{Order, order}
+use Rattle.rules.specs.Laws.Once.{once, expansion-once}
 
 -- CLOSED. The answer says closed exactly when the pass is accepted and the text is closed.
 pub closed-exactly : (k : Setting) (sheet text : List ℕ) → (pass k sheet text .closed ≡ true) ↔ ((pass k sheet text .number ≡ 0) × (isClosed k sheet text ≡ true))
@@ -42,3 +46,32 @@ pub pass-refused : (bundle folder text sheet : List ℕ) (m n l : ℕ) → let r
 unfolding passOf passedAnswer
 pass-refused bundle folder text sheet m n l h =
     refused-form (passedAnswer m n l (closedOf bundle folder text sheet)) (λ r. r .number) (λ k. refl) (λ a. refl) (passResult bundle folder text sheet m n l) h
+
+pub find-file-refused : (bundle path : List ℕ) → let r = findFileOf bundle path in r .number ≢ 0 → r ≡ record { number = r .number; kind = 0; start = 0; len = 0 }
+unfolding findFileOf
+find-file-refused bundle path h = find-refused bundle path h
+
+-- WRITTEN: each buffer holds what the answer's length says, and zero behind it; refused, the length is zero.
+pub resolve-string-written : (sheet path : List ℕ) (n : ℕ) → let r = resolveStringOf sheet path n in Holds n (r .len) (r .out)
+resolve-string-written sheet path n = resolveString-holds sheet path n
+
+pub resolve-includes-written : (bundle folder text : List ℕ) (n : ℕ) → let r = resolveIncludesOf bundle folder text n in Holds n (r .len) (r .out)
+resolve-includes-written bundle folder text n = resolveIncludes-holds bundle folder text n
+
+pub preprocess-typst-written : (bundle text sheet : List ℕ) (n l : ℕ) → let r = preprocessTypstOf bundle text sheet n l in HoldsBoth n l (r .len) (r .sheetLen) (r .out) (r .left)
+preprocess-typst-written bundle text sheet n l = preprocessTypst-holds bundle text sheet n l
+
+pub pass-written : (k : Setting) (sheet text : List ℕ) → let r = pass k sheet text in HoldsBoth (k .outLen) (k .leftLen) (r .len) (r .sheetLen) (r .out) (r .left) × (r .middle ≡ zeros (k .middleLen))
+pass-written k sheet text = (pass-holds k sheet text, pass-middle k sheet text)
+
+-- LEFT: the sheet that an accepted pass leaves keeps the layout and L, so it can start the next pass.
+pub pass-leaves : (k : Setting) (sheet text : List ℕ) → pass k sheet text .number ≡ 0 → Sheet (limit (k .leftLen)) (sheetLeft (pass k sheet text))
+pass-leaves k sheet text h = pass-sheet k sheet text h
+
+-- THE ORDER of the argument refusals of a pass.
+pub arguments-first : (k : Setting) (sheet text : List ℕ) → Order k sheet text
+arguments-first k sheet text = order k sheet text
+
+-- READ WHOLE: a step of the expansion that is refused has written nothing.
+pub read-whole : (v : View) (s : Records) (text : List ℕ) → once (expansionStep v s text .0 .emit) ≡ true
+read-whole v s text = expansion-once v s text

@@ -1,5 +1,6 @@
 pub mod Bool
 pub mod Answer
+pub mod Order
 pub mod Limit
 pub mod Read
 pub mod Steps
@@ -11,7 +12,7 @@ pub mod Middle
 pub mod Pass
 pub mod Numbers
 pub mod Refusals
+pub mod Once
 pub mod Sheet
 pub mod Parts
-pub mod Once
 pub mod Calls

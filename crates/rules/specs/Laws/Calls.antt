@@ -1,4 +1,4 @@
--- The public calls: what a refused one answers, what each buffer holds, the order of the argument refusals.
+-- The public calls: what a refused one answers, what each buffer holds, the sheet that is left, closed.
 use mathlib.Core.Path.{_≡_, refl, sym, ap, _∙_}
 use mathlib.Core.Logic.{_≢_, _↔_}
 use mathlib.Core.List.{List, [], _∷_, _++_}
@@ -15,19 +15,19 @@ use Rattle.rules.specs.Reader.{all}
 use Rattle.rules.specs.Run.{limited}
 use Rattle.rules.specs.Bytes.{ascii, word, isPath, isFolder}
 use Rattle.rules.specs.Bundle.{Entry, bundleOf}
-use Rattle.rules.specs.Files.{View, view, fetch}
+use Rattle.rules.specs.Files.{View, entryAt, isFolderOf, view, fetch}
 use Rattle.rules.specs.Sheet.{Records, encode, sheetLength, sheetOf, resolveString}
 use Rattle.rules.specs.Includes.{includes}
 use Rattle.rules.specs.Expansion.{expansion}
 use Rattle.rules.specs.Pass.{included, expanded, passed, closed}
-use Rattle.rules.specs.Calls.{limit, zeros, padded, Holds, Output, outputAnswer, resolveStringResult, resolveStringOf, resolveIncludesResult, resolveIncludesOf, Expanded, expandedAnswer, preprocessTypstResult, preprocessTypstOf, Passed, passedAnswer, closedIn, closedOf, passResult, passOf}
-use Rattle.rules.specs.Parts.{Setting, pass, isClosed}
+use Rattle.rules.specs.Calls.{limit, zeros, padded, Holds, Found, foundEntry, foundAnswer, findFileResult, findFileOf, Output, outputAnswer, resolveStringResult, resolveStringOf, resolveIncludesResult, resolveIncludesOf, Expanded, expandedAnswer, preprocessTypstResult, preprocessTypstOf, Passed, passedAnswer, closedIn, closedOf, passResult, passOf}
+use Rattle.rules.specs.Parts.{sheetLeft, Setting, pass, isClosed}
 use Rattle.rules.specs.Laws.Bool.{and-l, and-r, true-leb}
 use Rattle.rules.specs.Laws.Answer.{not-both, accepted-same, check-inv, bind-inv, orRefuse-inv}
 use Rattle.rules.specs.Laws.Limit.{limited-fits}
 use Rattle.rules.specs.Laws.Sheet.{sheet-good}
 use Rattle.rules.specs.Laws.Numbers.{numbered, zero-accepted}
-use Rattle.rules.specs.Laws.Parts.{Kept, expanded-kept, Ran, ran-inv, ran-kept, result-numbered}
+use Rattle.rules.specs.Laws.Parts.{Kept, kept-sheet, expanded-kept, Ran, ran-inv, ran-kept, Answers, answers, result-numbered}
 
 -- FORMS. `form` makes a call's answer of its result: a number other than 0 is a refusal, and 0 is an acceptance.
 module _ {A R : Type 0} (form : Answer A → R) (number : R → ℕ) (of-refused : (k : ℕ) → number (form (refused k)) ≡ k) (of-accepted : (a : A) → number (form (accepted a)) ≡ 0) where
@@ -57,6 +57,12 @@ unfolding outputAnswer
 holds-output n (refused k) h = holds-zeros n
 holds-output n (accepted o) h = holds-padded n o (h o refl)
 
+-- Bytes that keep the sheet's layout, at most L of them.
+pub record Sheet (L : ℕ) (bytes : List ℕ) : Type 0 where
+  pub records : Records
+  pub keeps-layout : sheetOf bytes ≡ some records
+  pub fits : length bytes ≤ L
+
 -- What the sheet buffer's length says of L.
 limit-le : (l : ℕ) → limit l ≤ l
 unfolding limit
@@ -65,6 +71,29 @@ limit-le l = omega arith
 kept-fits : (l : ℕ) (s : Records) → Kept (limit l) s → length (encode s) ≤ l
 unfolding sheetLength
 kept-fits l s k = omega (arith, true-leb (sheetLength s) (limit l) (k .small), limit-le l)
+
+-- FIND A FILE.
+found-refused : (x : Answer Found) → ((f : Found) → x ≡ accepted f → f .number ≡ 0) → foundAnswer x .number ≢ 0 → foundAnswer x ≡ record { number = foundAnswer x .number; kind = 0; start = 0; len = 0 }
+unfolding foundAnswer
+found-refused (refused k) z h = refl
+found-refused (accepted f) z h = absurd (h (z f refl))
+
+entry-number : (e : Option Entry) (f : Bool) → foundEntry e f .number ≡ 0
+unfolding foundEntry
+entry-number (some e) f = refl
+entry-number none true = refl
+entry-number none false = refl
+
+find-number : (bundle path : List ℕ) (f : Found) → findFileResult bundle path ≡ accepted f → f .number ≡ 0
+unfolding findFileResult
+find-number bundle path f q =
+    let i = bind-inv (orRefuse 2 (bundleOf bundle)) _ q in
+    let j = check-inv 4 (isPath path) _ (i .2) in
+    ap (λ z. z .number) (sym (accepted-same (j .1))) ∙ entry-number (entryAt (i .0) path) (isFolderOf (i .0) path)
+
+pub find-refused : (bundle path : List ℕ) → let r = findFileOf bundle path in r .number ≢ 0 → r ≡ record { number = r .number; kind = 0; start = 0; len = 0 }
+unfolding findFileOf
+find-refused bundle path h = found-refused (findFileResult bundle path) (find-number bundle path) h
 
 -- TEXT.
 resolveString-fits : (sheet path : List ℕ) (n : ℕ) (o : List ℕ) → resolveStringResult sheet path n ≡ accepted o → length o ≤ n
@@ -180,20 +209,10 @@ module _ (k : Setting) where
   unfolding pass passOf isClosed
   pass-closed sheet t = closed-at (closedOf (k .bundle) (k .folder) t sheet) (result sheet t) (result-numbered k sheet t)
 
-  -- THE ORDER of the argument refusals: 2, 3, 4, 6, 9.
-  pub record Order (sheet t : List ℕ) : Type 0 where
-    pub bundle-first : bundleOf (k .bundle) ≡ none → result sheet t ≡ refused 2
-    pub then-sheet : (es : List Entry) → bundleOf (k .bundle) ≡ some es → sheetOf sheet ≡ none → result sheet t ≡ refused 3
-    pub then-folder : (es : List Entry) (s : Records) → bundleOf (k .bundle) ≡ some es → sheetOf sheet ≡ some s → isFolder (k .folder) ≡ false → result sheet t ≡ refused 4
-    pub then-text : (es : List Entry) (s : Records) → bundleOf (k .bundle) ≡ some es → sheetOf sheet ≡ some s → isFolder (k .folder) ≡ true → all ascii t ≡ false → result sheet t ≡ refused 6
-    pub then-limit : (es : List Entry) (s : Records) → bundleOf (k .bundle) ≡ some es → sheetOf sheet ≡ some s → isFolder (k .folder) ≡ true → all ascii t ≡ true → leb (sheetLength s) (limit (k .leftLen)) ≡ false → result sheet t ≡ refused 9
-
-  pub order : (sheet t : List ℕ) → Order sheet t
-  unfolding passResult orRefuse check _>>=_ _>>_
-  order sheet t = record {
-    bundle-first = λ b. rw b;
-    then-sheet = λ es b s. rw (b, s);
-    then-folder = λ es r b s f. rw (b, s, f);
-    then-text = λ es r b s f a. rw (b, s, f, a);
-    then-limit = λ es r b s f a l. rw (b, s, f, a, l);
-  }
+  -- The sheet that an accepted pass leaves is a sheet of at most L bytes.
+  pub pass-sheet : (sheet t : List ℕ) → pass k sheet t .number ≡ 0 → Sheet (limit (k .leftLen)) (sheetLeft (pass k sheet t))
+  unfolding sheetLength
+  pass-sheet sheet t h =
+      let y = pass-accepted sheet t h in
+      let p = ran-kept k sheet t (y .0) (ran-inv k sheet t (y .0) (y .1)) in
+      rw (answers k sheet t (y .0) (y .1) .leaves) (record { records = y .0 .1; keeps-layout = kept-sheet (k .leftLen) (y .0 .1) p; fits = true-leb _ _ (p .small) })

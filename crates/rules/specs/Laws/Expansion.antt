@@ -54,7 +54,7 @@ good-rawEnd o (arguments l b) = search goods
 sure-rawEnd : (o : List ℕ) (a : Arguments) → Sure ended (rawEnd o a)
 unfolding rawEnd ended
 sure-rawEnd o stalled = sure-no ended (refuse 8) refl
-sure-rawEnd o (arguments l b) = sure-close ended ")" (λ e. says e (rawText o l b)) (unfold the in refl) refl
+sure-rawEnd o (arguments l b) = sure-close ended ")" _ (unfold the in refl) refl
 
 module _ (v : View) (look : List ℕ → List ℕ) where
   good-readCall : Good (readCall v look)
@@ -103,7 +103,7 @@ sure-linkEnd u = sure-then ended (good-span blank) (sure-over ended ")" _ _ (unf
     (surein-then ended (line-span lineBlank refl) (surein-bind ended (line-sees (the "[")) (λ b. surein-if ended b
     (surein-sure ended (sure-then ended good-skip (sure-bind ended (good-span (but "]")) (λ w. sure-close ended "]" _ (unfold the in refl) refl))))
     (surein-ret ended (says true u)))))
-    (sure-then ended (good-span (but ")")) (sure-close ended ")" (λ e. says e u) (unfold the in refl) refl)))
+    (sure-then ended (good-span (but ")")) (sure-close ended ")" _ (unfold the in refl) refl)))
 
 sure-link : (look : List ℕ → List ℕ) → Sure ended (link look)
 unfolding link ended

@@ -131,7 +131,7 @@ pub opened-plain : (v : View) (p c : List ℕ) → opened v p ≡ accepted c →
 unfolding opened plain
 opened-plain v p c h =
     let i = bind-inv (fetch v p) plain h in
-    let j = check-inv 6 (all ascii (i .0)) _ (i .2) in
+    let j = check-inv _ (all ascii (i .0)) _ (i .2) in
     rw (accepted-same (j .1)) at (j .0)
 
 fenced-plain : (l : List ℕ) (x : Answer (List ℕ)) → all ascii l ≡ true → ((c : List ℕ) → x ≡ accepted c → all ascii c ≡ true) → plainE (fenced l x) ≡ true

@@ -95,8 +95,8 @@ numbered-content (file c) = refl
 
 pub numbered-fetch : (v : View) (p : List ℕ) → numbered (fetch v p) ≡ true
 unfolding fetch isRefusal
-numbered-fetch v p = numbered-check 4 (isPath p) _ refl (numbered-content (v p))
+numbered-fetch v p = numbered-check _ (isPath p) _ refl (numbered-content (v p))
 
 pub numbered-opened : (v : View) (p : List ℕ) → numbered (opened v p) ≡ true
 unfolding opened plain isRefusal
-numbered-opened v p = numbered-bind (fetch v p) plain (numbered-fetch v p) (λ c. numbered-check 6 (all ascii c) _ refl (numbered-accepted c))
+numbered-opened v p = numbered-bind (fetch v p) plain (numbered-fetch v p) (λ c. numbered-check _ (all ascii c) _ refl (numbered-accepted c))
