@@ -2,15 +2,19 @@
 use mathlib.Core.Path.{_≡_, refl}
 use mathlib.Core.Logic.{_≢_, _↔_}
 use mathlib.Core.List.{List}
-use mathlib.Core.Bool.{Bool, true, false}
+use mathlib.Core.Bool.{Bool, true, false, _||_}
 use mathlib.Core.Option.{some}
 use Prim.Native.Nat.{ℕ, _≤_}
+use lib.Dec.{eqb}
+use lib.ListN.{take}
+use Rattle.rules.specs.Answer.{isRefusal}
 use Rattle.rules.specs.Calls.{limit, zeros, Holds, resolveResult, resolveOf, kindAnswer, Kind, resolveStringResult, resolveStringOf, outputAnswer, Output, findFileOf, foundAnswer, Found, resolveIncludesResult, resolveIncludesOf, preprocessTypstResult, preprocessTypstOf, expandedAnswer, Expanded, parseDefinitionsResult, parseDefinitionsOf, definedAnswer, Defined, passResult, passOf, passedAnswer, Passed, closedOf}
 use Rattle.rules.specs.Files.{View}
 use Rattle.rules.specs.Sheet.{Records, sheetOf}
 use Rattle.rules.specs.Expansion.{expansionStep}
 use Rattle.rules.specs.Parts.{Setting, pass, isClosed, sheetLeft}
-use Rattle.rules.specs.Laws.Calls.{refused-form, resolveString-holds, resolveIncludes-holds, preprocessTypst-holds, HoldsBoth, pass-holds, pass-middle, pass-closed, find-refused, Sheet, pass-sheet}
+use Rattle.rules.specs.Laws.Calls.{refused-form, number-form, parseDefinitions-holds, parseDefinitions-work, parseDefinitions-sheet, resolve-numbered, resolveString-numbered, resolveIncludes-numbered, preprocessTypst-numbered, parseDefinitions-numbered, resolveString-holds, resolveIncludes-holds, preprocessTypst-holds, HoldsBoth, pass-holds, pass-middle, pass-closed, find-refused, Sheet, pass-sheet}
+use Rattle.rules.specs.Laws.Parts.{result-numbered}
 use Rattle.rules.specs.Laws.Order.{Order, order}
 use Rattle.rules.specs.Laws.Once.{once, expansion-once}
 
@@ -64,9 +68,37 @@ preprocess-typst-written bundle text sheet n l = preprocessTypst-holds bundle te
 pub pass-written : (k : Setting) (sheet text : List ℕ) → let r = pass k sheet text in HoldsBoth (k .outLen) (k .leftLen) (r .len) (r .sheetLen) (r .out) (r .left) × (r .middle ≡ zeros (k .middleLen))
 pass-written k sheet text = (pass-holds k sheet text, pass-middle k sheet text)
 
--- LEFT: the sheet that an accepted pass leaves keeps the layout and L, so it can start the next pass.
+pub parse-definitions-written : (bundle path : List ℕ) (l w : ℕ) → let r = parseDefinitionsOf bundle path l w in Holds l (r .sheetLen) (r .left) × (r .work ≡ zeros w)
+parse-definitions-written bundle path l w = (parseDefinitions-holds bundle path l w, parseDefinitions-work bundle path l w)
+
+-- LEFT: the sheet that an accepted call leaves keeps the layout and L, so a pass can start from it.
 pub pass-leaves : (k : Setting) (sheet text : List ℕ) → pass k sheet text .number ≡ 0 → Sheet (limit (k .leftLen)) (sheetLeft (pass k sheet text))
 pass-leaves k sheet text h = pass-sheet k sheet text h
+
+pub parse-definitions-leaves : (bundle path : List ℕ) (l w : ℕ) → let r = parseDefinitionsOf bundle path l w in r .number ≡ 0 → Sheet (limit l) (take (r .sheetLen) (r .left))
+parse-definitions-leaves bundle path l w h = parseDefinitions-sheet bundle path l w h
+
+-- NUMBERS: every answer has the number 0 or one of section 8.
+unfoldable pub known : ℕ → Bool
+known n = eqb n 0 || isRefusal n
+
+pub numbers :
+    ((sheet path : List ℕ) → known (resolveOf sheet path .number) ≡ true)
+    × ((sheet path : List ℕ) (n : ℕ) → known (resolveStringOf sheet path n .number) ≡ true)
+    × ((bundle folder text : List ℕ) (n : ℕ) → known (resolveIncludesOf bundle folder text n .number) ≡ true)
+    × ((bundle text sheet : List ℕ) (n l : ℕ) → known (preprocessTypstOf bundle text sheet n l .number) ≡ true)
+    × ((bundle path : List ℕ) (l w : ℕ) → known (parseDefinitionsOf bundle path l w .number) ≡ true)
+    × ((k : Setting) (sheet text : List ℕ) → known (pass k sheet text .number) ≡ true)
+unfolding known resolveOf kindAnswer resolveStringOf outputAnswer resolveIncludesOf preprocessTypstOf expandedAnswer parseDefinitionsOf definedAnswer pass passOf passedAnswer
+numbers = (
+  λ s p. number-form kindAnswer (λ r. r .number) (λ k. refl) (λ a. refl) (resolveResult s p) (resolve-numbered s p),
+  λ s p n. number-form (outputAnswer n) (λ r. r .number) (λ k. refl) (λ a. refl) (resolveStringResult s p n) (resolveString-numbered s p n),
+  λ b g t n. number-form (outputAnswer n) (λ r. r .number) (λ k. refl) (λ a. refl) (resolveIncludesResult b g t n) (resolveIncludes-numbered b g t n),
+  λ b t s n l. number-form (expandedAnswer n l) (λ r. r .number) (λ k. refl) (λ a. refl) (preprocessTypstResult b t s n l) (preprocessTypst-numbered b t s n l),
+  λ b p l w. number-form (definedAnswer l w) (λ r. r .number) (λ k. refl) (λ a. refl) (parseDefinitionsResult b p l w) (parseDefinitions-numbered b p l w),
+  λ k s t. number-form (passedAnswer (k .middleLen) (k .outLen) (k .leftLen) (closedOf (k .bundle) (k .folder) t s)) (λ r. r .number) (λ n. refl) (λ a. refl)
+      (passResult (k .bundle) (k .folder) t s (k .middleLen) (k .outLen) (k .leftLen)) (result-numbered k s t),
+)
 
 -- THE ORDER of the argument refusals of a pass.
 pub arguments-first : (k : Setting) (sheet text : List ℕ) → Order k sheet text

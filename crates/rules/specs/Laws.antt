@@ -14,5 +14,7 @@ pub mod Numbers
 pub mod Refusals
 pub mod Once
 pub mod Sheet
+pub mod Values
+pub mod Definitions
 pub mod Parts
 pub mod Calls

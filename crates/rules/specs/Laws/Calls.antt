@@ -2,32 +2,34 @@
 use mathlib.Core.Path.{_≡_, refl, sym, ap, _∙_}
 use mathlib.Core.Logic.{_≢_, _↔_}
 use mathlib.Core.List.{List, [], _∷_, _++_}
-use mathlib.Core.Bool.{Bool, true, false, _&&_, true≢false}
+use mathlib.Core.Bool.{Bool, true, false, _&&_, _||_, true≢false}
 use mathlib.Core.Option.{Option, none, some}
 use Prim.Native.Nat.{ℕ, _+_, _-_, _*_, _≤_, min}
 use native.Mathlib.Omega.{arith}
 use native.Mathlib.Nat.{sub-zero}
-use lib.Dec.{leb}
+use lib.Dec.{leb, eqb}
 use lib.ListN.{length, take, drop, replicate, length-append, length-replicate}
-use lib.Seq.{drop-append-seam}
+use lib.Seq.{take-append-seam, drop-append-seam}
 use Rattle.rules.specs.Answer.{Answer, refused, accepted, isRefusal, _>>=_, _>>_, check, orRefuse}
 use Rattle.rules.specs.Reader.{all}
 use Rattle.rules.specs.Run.{limited}
-use Rattle.rules.specs.Bytes.{ascii, word, isPath, isFolder}
+use Rattle.rules.specs.Bytes.{ascii, isPath, isFolder, parent}
 use Rattle.rules.specs.Bundle.{Entry, bundleOf}
 use Rattle.rules.specs.Files.{View, entryAt, isFolderOf, view, fetch}
 use Rattle.rules.specs.Sheet.{Records, encode, sheetLength, sheetOf, resolveString}
 use Rattle.rules.specs.Includes.{includes}
 use Rattle.rules.specs.Expansion.{expansion}
 use Rattle.rules.specs.Pass.{included, expanded, passed, closed}
-use Rattle.rules.specs.Calls.{limit, zeros, padded, Holds, Found, foundEntry, foundAnswer, findFileResult, findFileOf, Output, outputAnswer, resolveStringResult, resolveStringOf, resolveIncludesResult, resolveIncludesOf, Expanded, expandedAnswer, preprocessTypstResult, preprocessTypstOf, Passed, passedAnswer, closedIn, closedOf, passResult, passOf}
+use Rattle.rules.specs.Calls.{limit, zeros, padded, Holds, Found, foundEntry, foundAnswer, findFileResult, findFileOf, Output, outputAnswer, resolveStringResult, resolveStringOf, resolveIncludesResult, resolveIncludesOf, Expanded, expandedAnswer, preprocessTypstResult, preprocessTypstOf, Defined, definedAnswer, parseDefinitionsResult, parseDefinitionsOf, resolveResult, Passed, passedAnswer, closedIn, closedOf, passResult, passOf}
 use Rattle.rules.specs.Parts.{sheetLeft, Setting, pass, isClosed}
-use Rattle.rules.specs.Laws.Bool.{and-l, and-r, true-leb}
+use Rattle.rules.specs.Laws.Bool.{or-i-r, true-leb}
 use Rattle.rules.specs.Laws.Answer.{not-both, accepted-same, check-inv, bind-inv, orRefuse-inv}
 use Rattle.rules.specs.Laws.Limit.{limited-fits}
-use Rattle.rules.specs.Laws.Sheet.{sheet-good}
-use Rattle.rules.specs.Laws.Numbers.{numbered, zero-accepted}
-use Rattle.rules.specs.Laws.Parts.{Kept, kept-sheet, expanded-kept, Ran, ran-inv, ran-kept, Answers, answers, result-numbered}
+use Rattle.rules.specs.Laws.Sheet.{sheet-good, Kept}
+use Rattle.rules.specs.Laws.Numbers.{numbered, numbered-accepted, numbered-check, numbered-orRefuse, numbered-bind, limited-numbered, numbered-fetch, zero-accepted}
+use Rattle.rules.specs.Laws.Refusals.{includes-numbered, expansion-numbered}
+use Rattle.rules.specs.Laws.Definitions.{definitions-numbered, definitions-kept}
+use Rattle.rules.specs.Laws.Parts.{kept-sheet, expanded-kept, Ran, ran-inv, ran-kept, Answers, answers, result-numbered}
 
 -- FORMS. `form` makes a call's answer of its result: a number other than 0 is a refusal, and 0 is an acceptance.
 module _ {A R : Type 0} (form : Answer A → R) (number : R → ℕ) (of-refused : (k : ℕ) → number (form (refused k)) ≡ k) (of-accepted : (a : A) → number (form (accepted a)) ≡ 0) where
@@ -38,6 +40,12 @@ module _ {A R : Type 0} (form : Answer A → R) (number : R → ℕ) (of-refused
   pub accepted-form : (x : Answer A) → numbered x ≡ true → number (form x) ≡ 0 → (a : A) × (x ≡ accepted a)
   accepted-form (refused k) n h = absurd (zero-accepted (refused k) n (ap refused (sym (of-refused k) ∙ h)))
   accepted-form (accepted a) n h = (a, refl)
+
+  -- The number is 0 or one of section 8.
+  pub number-form : (x : Answer A) → numbered x ≡ true → (eqb (number (form x)) 0 || isRefusal (number (form x))) ≡ true
+  unfolding numbered
+  number-form (refused k) n = rw (of-refused k) (or-i-r (eqb k 0) (isRefusal k) n)
+  number-form (accepted a) n = rw (of-accepted a) refl
 
 -- BUFFERS. A padded result, and an empty one.
 holds-padded : (n : ℕ) (o : List ℕ) → length o ≤ n → Holds n (length o) (padded n o)
@@ -160,6 +168,68 @@ expanded-holds n l (accepted y) h = let r = h y refl in record { output = holds-
 pub preprocessTypst-holds : (bundle text sheet : List ℕ) (n l : ℕ) → let r = preprocessTypstOf bundle text sheet n l in HoldsBoth n l (r .len) (r .sheetLen) (r .out) (r .left)
 unfolding preprocessTypstOf
 preprocessTypst-holds bundle text sheet n l = expanded-holds n l (preprocessTypstResult bundle text sheet n l) (preprocessTypst-ready bundle text sheet n l)
+
+-- DEFINITIONS. An accepted one leaves a sheet that keeps the layout and L.
+parseDefinitions-kept : (bundle path : List ℕ) (l w : ℕ) (s : Records) → parseDefinitionsResult bundle path l w ≡ accepted s → Kept (limit l) s
+unfolding parseDefinitionsResult
+parseDefinitions-kept bundle path l w s q =
+    let i = check-inv 1 (leb (16 * limit l) w) _ q in
+    let j = bind-inv (orRefuse 2 (bundleOf bundle)) _ (i .1) in
+    let c = bind-inv (fetch (view (j .0)) path) _ (j .2) in
+    definitions-kept (limit l) (view (j .0)) (parent path) (c .0) s (c .2)
+
+defined-holds : (l w : ℕ) (x : Answer Records) → ((s : Records) → x ≡ accepted s → Kept (limit l) s) → Holds l (definedAnswer l w x .sheetLen) (definedAnswer l w x .left)
+unfolding definedAnswer
+defined-holds l w (refused k) h = holds-zeros l
+defined-holds l w (accepted s) h = holds-padded l (encode s) (kept-fits l s (h s refl))
+
+pub parseDefinitions-holds : (bundle path : List ℕ) (l w : ℕ) → Holds l (parseDefinitionsOf bundle path l w .sheetLen) (parseDefinitionsOf bundle path l w .left)
+unfolding parseDefinitionsOf
+parseDefinitions-holds bundle path l w = defined-holds l w (parseDefinitionsResult bundle path l w) (parseDefinitions-kept bundle path l w)
+
+defined-work : (l w : ℕ) (x : Answer Records) → definedAnswer l w x .work ≡ zeros w
+unfolding definedAnswer
+defined-work l w (refused k) = refl
+defined-work l w (accepted s) = refl
+
+pub parseDefinitions-work : (bundle path : List ℕ) (l w : ℕ) → parseDefinitionsOf bundle path l w .work ≡ zeros w
+unfolding parseDefinitionsOf
+parseDefinitions-work bundle path l w = defined-work l w (parseDefinitionsResult bundle path l w)
+
+pub parseDefinitions-numbered : (bundle path : List ℕ) (l w : ℕ) → numbered (parseDefinitionsResult bundle path l w) ≡ true
+unfolding parseDefinitionsResult isRefusal
+parseDefinitions-numbered bundle path l w =
+    numbered-check _ (leb (16 * limit l) w) _ refl (numbered-bind (orRefuse 2 (bundleOf bundle)) _ (numbered-orRefuse _ _ refl) (λ es.
+    numbered-bind (fetch (view es) path) _ (numbered-fetch (view es) path) (λ c. definitions-numbered (limit l) (view es) (parent path) c)))
+
+pub parseDefinitions-sheet : (bundle path : List ℕ) (l w : ℕ) → let r = parseDefinitionsOf bundle path l w in r .number ≡ 0 → Sheet (limit l) (take (r .sheetLen) (r .left))
+unfolding parseDefinitionsOf definedAnswer padded sheetLength
+parseDefinitions-sheet bundle path l w h =
+    let y = accepted-form (definedAnswer l w) (λ r. r .number) (λ k. refl) (λ s. refl) (parseDefinitionsResult bundle path l w) (parseDefinitions-numbered bundle path l w) h in
+    let p = parseDefinitions-kept bundle path l w (y .0) (y .1) in
+    rw (y .1, take-append-seam (encode (y .0)) (zeros (l - length (encode (y .0))))) (record { records = y .0; keeps-layout = kept-sheet l (y .0) p; fits = true-leb _ _ (p .small) })
+
+-- NUMBERS of the other calls.
+pub resolve-numbered : (sheet path : List ℕ) → numbered (resolveResult sheet path) ≡ true
+unfolding resolveResult isRefusal
+resolve-numbered sheet path = numbered-bind (orRefuse 3 (sheetOf sheet)) _ (numbered-orRefuse _ _ refl) (λ s. numbered-check _ (all ascii path) _ refl (numbered-accepted _))
+
+pub resolveString-numbered : (sheet path : List ℕ) (n : ℕ) → numbered (resolveStringResult sheet path n) ≡ true
+unfolding resolveStringResult isRefusal
+resolveString-numbered sheet path n =
+    numbered-bind (orRefuse 3 (sheetOf sheet)) _ (numbered-orRefuse _ _ refl) (λ s. numbered-check _ (all ascii path) _ refl (numbered-check _ (leb (length (resolveString s path)) n) _ refl (numbered-accepted _)))
+
+pub resolveIncludes-numbered : (bundle folder text : List ℕ) (n : ℕ) → numbered (resolveIncludesResult bundle folder text n) ≡ true
+unfolding resolveIncludesResult included isRefusal
+resolveIncludes-numbered bundle folder text n =
+    numbered-bind (orRefuse 2 (bundleOf bundle)) _ (numbered-orRefuse _ _ refl) (λ es. numbered-check _ (isFolder folder) _ refl (numbered-check _ (all ascii text) _ refl
+    (numbered-bind (included (view es) 11 n folder text) _ (limited-numbered (λ h. 0) 0 11 refl (includes (view es) folder text) n (includes-numbered (view es) folder text)) (λ x. numbered-accepted _))))
+
+pub preprocessTypst-numbered : (bundle text sheet : List ℕ) (n l : ℕ) → numbered (preprocessTypstResult bundle text sheet n l) ≡ true
+unfolding preprocessTypstResult expanded isRefusal
+preprocessTypst-numbered bundle text sheet n l =
+    numbered-bind (orRefuse 2 (bundleOf bundle)) _ (numbered-orRefuse _ _ refl) (λ es. numbered-bind (orRefuse 3 (sheetOf sheet)) _ (numbered-orRefuse _ _ refl) (λ s.
+    numbered-check _ (all ascii text) _ refl (numbered-check _ (leb (sheetLength s) (limit l)) _ refl (limited-numbered sheetLength (limit l) 11 refl (expansion (view es) s text) n (expansion-numbered (view es) s text)))))
 
 -- THE PASS.
 module _ (k : Setting) where

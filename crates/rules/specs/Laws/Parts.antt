@@ -27,7 +27,7 @@ use Rattle.rules.specs.Laws.Texts.{all-left, all-right}
 use Rattle.rules.specs.Laws.Includes.{append-nil}
 use Rattle.rules.specs.Laws.Middle.{middle-plain}
 use Rattle.rules.specs.Laws.Keep.{expansion-keeps}
-use Rattle.rules.specs.Laws.Sheet.{set-good, resolve-good, sheet-encode, sheet-good}
+use Rattle.rules.specs.Laws.Sheet.{set-good, resolve-good, sheet-encode, sheet-good, Kept}
 use Rattle.rules.specs.Laws.Pass.{Passes, passed-split}
 use Rattle.rules.specs.Laws.Numbers.{numbered, numbered-check, numbered-orRefuse, numbered-bind, limited-numbered, zero-accepted}
 use Rattle.rules.specs.Laws.Refusals.{includes-numbered, expansion-numbered}
@@ -37,11 +37,6 @@ let-good : (s : Records) (t : List ℕ) (x : Option Value) → resolve s t ≡ x
 unfolding letValue goodValue
 let-good s t none q h e = e
 let-good s t (some w) q h e = resolve-good s word 6 t w h q
-
--- Good records of at most L bytes.
-pub record Kept (L : ℕ) (s : Records) : Type 0 where
-  pub good : goodRecords s word 6 ≡ true
-  pub small : leb (sheetLength s) L ≡ true
 
 pub expanded-kept : (v : View) (L n : ℕ) (s : Records) (t : List ℕ) (y : List ℕ × Records) → all ascii t ≡ true → Kept L s → expanded v L n s t ≡ accepted y → Kept L (y .1)
 unfolding expanded

@@ -93,13 +93,14 @@ less-other : (n m : List ℕ) → less n m ≡ true → same n m ≡ false
 less-other n m h = not-true (same n m) (λ q. true≢false (sym h ∙ ap (less n) (sym (same-eq n m q)) ∙ less-irrefl n))
 
 -- GOOD RECORDS: what is asked of the first record and of those behind it.
-record Good (n : List ℕ) (v : Value) (r : Records) (p : ℕ → Bool) (l : ℕ) : Type 0 where
-  name : all p n ≡ true
-  order : before n r ≡ true
-  value : goodValue v l ≡ true
-  later : goodRecords r p l ≡ true
+pub record Good (n : List ℕ) (v : Value) (r : Records) (p : ℕ → Bool) (l : ℕ) : Type 0 where
+  pub name : all p n ≡ true
+  pub order : before n r ≡ true
+  pub value : goodValue v l ≡ true
+  pub later : goodRecords r p l ≡ true
 
-good-parts : (n : List ℕ) (v : Value) (r : Records) (p : ℕ → Bool) (l : ℕ) → goodRecords (rec n v r) p l ≡ true → Good n v r p l
+-- These are what good records are made of.
+pub good-parts : (n : List ℕ) (v : Value) (r : Records) (p : ℕ → Bool) (l : ℕ) → goodRecords (rec n v r) p l ≡ true → Good n v r p l
 unfolding goodRecords
 good-parts n v r p l h =
     let a = and-l (all p n && before n r && goodValue v l) (goodRecords r p l) h in
@@ -523,3 +524,8 @@ sheet-good b r h =
 -- A sheet is the bytes of its records.
 pub sheet-canonical : (b : List ℕ) (r : Records) → all isByte b ≡ true → sheetOf b ≡ some r → encode r ≡ b
 sheet-canonical b r a h = encode-decode b r a (sheet-good b r h .decoded)
+
+-- Good records of at most L bytes.
+pub record Kept (L : ℕ) (s : Records) : Type 0 where
+  pub good : goodRecords s word 6 ≡ true
+  pub small : leb (sheetLength s) L ≡ true
