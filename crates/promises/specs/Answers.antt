@@ -3,20 +3,24 @@ use mathlib.Core.Path.{_≡_, refl}
 use mathlib.Core.Logic.{_≢_, _↔_}
 use mathlib.Core.List.{List}
 use mathlib.Core.Bool.{Bool, true, false, _||_}
-use mathlib.Core.Option.{some}
+use mathlib.Core.Option.{none, some}
 use Prim.Native.Nat.{ℕ, _≤_}
-use lib.Dec.{eqb}
-use lib.ListN.{take}
+use lib.Dec.{leb, eqb}
+use lib.ListN.{length, take}
 use Rattle.rules.specs.Answer.{isRefusal}
+use Rattle.rules.specs.Reader.{all}
+use Rattle.rules.specs.Run.{fail, unrefused}
+use Rattle.rules.specs.Bytes.{ascii, isFolder}
+use Rattle.rules.specs.Bundle.{Entry, bundleOf}
 use Rattle.rules.specs.Calls.{limit, zeros, Holds, resolveResult, resolveOf, kindAnswer, Kind, resolveStringResult, resolveStringOf, outputAnswer, Output, findFileOf, foundAnswer, Found, resolveIncludesResult, resolveIncludesOf, preprocessTypstResult, preprocessTypstOf, expandedAnswer, Expanded, parseDefinitionsResult, parseDefinitionsOf, definedAnswer, Defined, passResult, passOf, passedAnswer, Passed, closedOf}
 use Rattle.rules.specs.Files.{View}
-use Rattle.rules.specs.Sheet.{Records, sheetOf}
+use Rattle.rules.specs.Sheet.{Records, sheetLength, sheetOf}
 use Rattle.rules.specs.Expansion.{expansionStep}
 use Rattle.rules.specs.Parts.{Setting, pass, isClosed, sheetLeft}
-use Rattle.rules.specs.Laws.Calls.{refused-form, number-form, parseDefinitions-holds, parseDefinitions-work, parseDefinitions-sheet, resolve-numbered, resolveString-numbered, resolveIncludes-numbered, preprocessTypst-numbered, parseDefinitions-numbered, resolveString-holds, resolveIncludes-holds, preprocessTypst-holds, HoldsBoth, pass-holds, pass-middle, pass-closed, find-refused, Sheet, pass-sheet}
+use Rattle.rules.specs.Laws.Calls.{refused-form, number-form, parseDefinitions-holds, parseDefinitions-work, parseDefinitions-sheet, resolve-numbered, resolveString-numbered, resolveIncludes-numbered, preprocessTypst-numbered, parseDefinitions-numbered, resolveString-holds, resolveIncludes-holds, preprocessTypst-holds, pass-holds, pass-middle, pass-closed, find-refused, pass-sheet}
 use Rattle.rules.specs.Laws.Parts.{result-numbered}
-use Rattle.rules.specs.Laws.Order.{Order, order}
-use Rattle.rules.specs.Laws.Once.{once, expansion-once}
+use Rattle.rules.specs.Laws.Order.{order}
+use Rattle.rules.specs.Laws.Once.{refused-alone, expansion-once}
 
 -- CLOSED. The answer says closed exactly when the pass is accepted and the text is closed.
 pub closed-exactly : (k : Setting) (sheet text : List ℕ) → (pass k sheet text .closed ≡ true) ↔ ((pass k sheet text .number ≡ 0) × (isClosed k sheet text ≡ true))
@@ -62,21 +66,22 @@ resolve-string-written sheet path n = resolveString-holds sheet path n
 pub resolve-includes-written : (bundle folder text : List ℕ) (n : ℕ) → let r = resolveIncludesOf bundle folder text n in Holds n (r .len) (r .out)
 resolve-includes-written bundle folder text n = resolveIncludes-holds bundle folder text n
 
-pub preprocess-typst-written : (bundle text sheet : List ℕ) (n l : ℕ) → let r = preprocessTypstOf bundle text sheet n l in HoldsBoth n l (r .len) (r .sheetLen) (r .out) (r .left)
-preprocess-typst-written bundle text sheet n l = preprocessTypst-holds bundle text sheet n l
+pub preprocess-typst-written : (bundle text sheet : List ℕ) (n l : ℕ) → let r = preprocessTypstOf bundle text sheet n l in Holds n (r .len) (r .out) × Holds l (r .sheetLen) (r .left)
+preprocess-typst-written bundle text sheet n l = let h = preprocessTypst-holds bundle text sheet n l in (h .output, h .sheet)
 
-pub pass-written : (k : Setting) (sheet text : List ℕ) → let r = pass k sheet text in HoldsBoth (k .outLen) (k .leftLen) (r .len) (r .sheetLen) (r .out) (r .left) × (r .middle ≡ zeros (k .middleLen))
-pass-written k sheet text = (pass-holds k sheet text, pass-middle k sheet text)
+pub pass-written : (k : Setting) (sheet text : List ℕ) → let r = pass k sheet text in Holds (k .outLen) (r .len) (r .out) × Holds (k .leftLen) (r .sheetLen) (r .left) × (r .middle ≡ zeros (k .middleLen))
+pass-written k sheet text = let h = pass-holds k sheet text in (h .output, h .sheet, pass-middle k sheet text)
 
 pub parse-definitions-written : (bundle path : List ℕ) (l w : ℕ) → let r = parseDefinitionsOf bundle path l w in Holds l (r .sheetLen) (r .left) × (r .work ≡ zeros w)
 parse-definitions-written bundle path l w = (parseDefinitions-holds bundle path l w, parseDefinitions-work bundle path l w)
 
 -- LEFT: the sheet that an accepted call leaves keeps the layout and L, so a pass can start from it.
-pub pass-leaves : (k : Setting) (sheet text : List ℕ) → pass k sheet text .number ≡ 0 → Sheet (limit (k .leftLen)) (sheetLeft (pass k sheet text))
-pass-leaves k sheet text h = pass-sheet k sheet text h
+pub pass-leaves : (k : Setting) (sheet text : List ℕ) → let r = pass k sheet text in r .number ≡ 0 → (s : Records) × (sheetOf (sheetLeft r) ≡ some s) × (length (sheetLeft r) ≤ limit (k .leftLen))
+pass-leaves k sheet text h = let s = pass-sheet k sheet text h in (s .records, s .keeps-layout, s .fits)
 
-pub parse-definitions-leaves : (bundle path : List ℕ) (l w : ℕ) → let r = parseDefinitionsOf bundle path l w in r .number ≡ 0 → Sheet (limit l) (take (r .sheetLen) (r .left))
-parse-definitions-leaves bundle path l w h = parseDefinitions-sheet bundle path l w h
+pub parse-definitions-leaves : (bundle path : List ℕ) (l w : ℕ) → let r = parseDefinitionsOf bundle path l w in
+    r .number ≡ 0 → (s : Records) × (sheetOf (take (r .sheetLen) (r .left)) ≡ some s) × (length (take (r .sheetLen) (r .left)) ≤ limit l)
+parse-definitions-leaves bundle path l w h = let s = parseDefinitions-sheet bundle path l w h in (s .records, s .keeps-layout, s .fits)
 
 -- NUMBERS: every answer has the number 0 or one of section 8.
 unfoldable pub known : ℕ → Bool
@@ -100,10 +105,19 @@ numbers = (
       (passResult (k .bundle) (k .folder) t s (k .middleLen) (k .outLen) (k .leftLen)) (result-numbered k s t),
 )
 
--- THE ORDER of the argument refusals of a pass.
-pub arguments-first : (k : Setting) (sheet text : List ℕ) → Order k sheet text
-arguments-first k sheet text = order k sheet text
+-- ARGUMENTS FIRST: 2, 3, 4, 6, then 9 for the sheet given, the first that applies.
+pub arguments-first : (k : Setting) (sheet text : List ℕ) →
+    (bundleOf (k .bundle) ≡ none → pass k sheet text .number ≡ 2)
+    × ((es : List Entry) → bundleOf (k .bundle) ≡ some es →
+    (sheetOf sheet ≡ none → pass k sheet text .number ≡ 3)
+    × ((s : Records) → sheetOf sheet ≡ some s →
+    (isFolder (k .folder) ≡ false → pass k sheet text .number ≡ 4)
+    × (isFolder (k .folder) ≡ true → all ascii text ≡ false → pass k sheet text .number ≡ 6)
+    × (isFolder (k .folder) ≡ true → all ascii text ≡ true → leb (sheetLength s) (limit (k .leftLen)) ≡ false → pass k sheet text .number ≡ 9)))
+arguments-first k sheet text =
+    let o = order k sheet text in
+    (o .bundle-first, λ es b. (o .then-sheet es b, λ s q. (o .then-folder es s b q, o .then-text es s b q, o .then-limit es s b q)))
 
--- READ WHOLE: a step of the expansion that is refused has written nothing.
-pub read-whole : (v : View) (s : Records) (text : List ℕ) → once (expansionStep v s text .0 .emit) ≡ true
-read-whole v s text = expansion-once v s text
+-- READ WHOLE: a step of the expansion that is refused is nothing but the refusal; no byte of it comes first.
+pub read-whole : (v : View) (s : Records) (text : List ℕ) → unrefused (expansionStep v s text .0 .emit) ≡ false → (k : ℕ) × (expansionStep v s text .0 .emit ≡ fail k)
+read-whole v s text h = refused-alone (expansionStep v s text .0 .emit) (expansion-once v s text) h

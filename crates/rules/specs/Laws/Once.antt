@@ -1,10 +1,10 @@
 -- A step of the expansion that is refused has written nothing: a call is read whole, its file opened, before its first byte is output.
-use mathlib.Core.Path.{_≡_, refl}
+use mathlib.Core.Path.{_≡_, refl, sym}
 use mathlib.Core.List.{List, [], _∷_}
-use mathlib.Core.Bool.{Bool, true, false}
+use mathlib.Core.Bool.{Bool, true, false, true≢false}
 use Prim.Native.Nat.{ℕ}
 use Rattle.rules.specs.Reader.{Reader, ret, ifR, _>>=_, _>>_, skip}
-use Rattle.rules.specs.Run.{Emit, ok, put, fail, Did}
+use Rattle.rules.specs.Run.{Emit, ok, put, fail, unrefused, Did}
 use Rattle.rules.specs.Files.{View}
 use Rattle.rules.specs.Sheet.{Records}
 use Rattle.rules.specs.Expansion.{Call, back, refuse, says, writes, binds, callDid, calling, callStep, importStep, letStep, referenceStep, copyStep, expansionStep}
@@ -17,6 +17,14 @@ once (put o ok) = true
 once (put o (put p e)) = false
 once (put o (fail k)) = false
 once (fail k) = true
+
+pub refused-alone : (e : Emit) → once e ≡ true → unrefused e ≡ false → (k : ℕ) × (e ≡ fail k)
+unfolding once unrefused
+refused-alone ok o h = absurd (true≢false h)
+refused-alone (put p ok) o h = absurd (true≢false h)
+refused-alone (put p (put q e)) o h = absurd (true≢false (sym o))
+refused-alone (put p (fail k)) o h = absurd (true≢false (sym o))
+refused-alone (fail k) o h = (k, refl)
 
 unfoldable didOnce : Did Records → Bool
 didOnce d = once (d .emit)
