@@ -1,14 +1,18 @@
 -- The byte sets, and what the scanning functions promise.
 use mathlib.Core.Path.{_≡_}
 use mathlib.Core.List.{List, [], _∷_}
-use mathlib.Core.Bool.{Bool, true, false}
+use mathlib.Core.Bool.{Bool, true, false, _&&_}
 use Prim.Native.Nat.{ℕ, _+_, _-_, _≤_, _<_}
 use lib.Dec.{eqb}
 use lib.ListN.{length, take, drop}
 use Rattle.rules.specs.Reader.{Reader, span, sees, skip, prefix, the, either, but}
 use Rattle.scan.specs.declared.Set.{Set}
-use Rattle.scan.specs.declared.Set.the-variants.{Blank, LineBlank, Letter, Word, Name, Run, CommaOrBlank, ColonOrBlank, EqualsOrLineBlank, EqualsOrBlank, UnderscoreOrLetter, Space, NotNewline, NotParen, NotBracket, NotQuote, NotDot, NotSlash, Ascii}
+use Rattle.scan.specs.declared.Set.the-variants.{Blank, LineBlank, Letter, Word, Name, Run, CommaOrBlank, ColonOrBlank, EqualsOrLineBlank, EqualsOrBlank, UnderscoreOrLetter, Space, NotNewline, NotParen, NotBracket, NotQuote, NotQuoteNorBackslash, NotDot, NotSlash, Ascii}
 use Rattle.rules.specs.Bytes.{ascii, blank, lineBlank, letter, word, nameByte, runByte}
+
+-- A byte that stands for itself in a literal: not `"` and not `\`.
+abbrev pub plainByte : ℕ → Bool
+plainByte x = but "\"" x && but "\\" x
 
 -- What each set holds.
 abbrev pub member : Set → ℕ → Bool
@@ -28,6 +32,7 @@ member NotNewline = but "\n"
 member NotParen = but ")"
 member NotBracket = but "]"
 member NotQuote = but "\""
+member NotQuoteNorBackslash = plainByte
 member NotDot = but "."
 member NotSlash = but "/"
 member Ascii = ascii

@@ -21,7 +21,8 @@ fn escape(out: &mut [u8], room: usize, p: usize, x: u8) -> usize
     match x {
         110 => buffers::put_byte(out, room, p, 10),
         116 => buffers::put_byte(out, room, p, 9),
-        34 | 92 => buffers::put_byte(out, room, p, x),
+        34 => buffers::put_byte(out, room, p, 34),
+        92 => buffers::put_byte(out, room, p, 92),
         _ => {
             let q = buffers::put_byte(out, room, p, 92);
             buffers::put_byte(out, room, q, x)

@@ -63,6 +63,9 @@ enum-told-18 c = search needs
 enum-told-19 : tie.Need-enum-told-19
 enum-told-19 c = search needs
 
+enum-told-20 : tie.Need-enum-told-20
+enum-told-20 c = search needs
+
 returns : tie.Need-returns
 unfolding classes
 returns c = rw (c .enum-told .given .1) refl
@@ -139,6 +142,10 @@ returns-19 : tie.Need-returns-19
 unfolding classes
 returns-19 c = rw (c .enum-told19 .given .1) refl
 
+returns-20 : tie.Need-returns-20
+unfolding classes
+returns-20 c = rw (c .enum-told20 .given .1) refl
+
 pub member-spec : {M : Type 1} → statement M
 member-spec =
     tie.close
@@ -162,6 +169,7 @@ member-spec =
     enum-told-17
     enum-told-18
     enum-told-19
+    enum-told-20
     returns
     returns-2
     returns-3
@@ -180,4 +188,5 @@ member-spec =
     returns-16
     returns-17
     returns-18
-    returns-19)
+    returns-19
+    returns-20)
