@@ -5,7 +5,7 @@ use Prim.Native.Nat.{ℕ, zero, suc, _+_, _-_, _≤_, _<_}
 use native.Mathlib.Nat.{le-refl}
 use native.Mathlib.Omega.{arith}
 use lib.ListN.{length, take, drop, getD, length-append, length-drop, length-take, take-append-drop}
-use lib.Seq.{drop-drop, drop-append-seam, take-append-seam, take-all, length-take-le}
+use lib.Seq.{drop-drop, drop-append-seam, take-append-seam, take-all, take-suc, getD-drop, length-take-le}
 
 -- What stands from f to t.
 abbrev pub slice : ℕ → ℕ → List ℕ → List ℕ
@@ -54,3 +54,14 @@ part-of s i x j h k e =
 -- All that is behind k.
 pub tail-slice : (t : List ℕ) (k : ℕ) → take (length t - k) (drop k t) ≡ drop k t
 tail-slice t k = take-all (length t - k) (drop k t) (rw length-drop (le-refl (length t - k)))
+
+-- One byte more.
+pub slice-more : (p i : ℕ) (t : List ℕ) → p ≤ i → i < length t → slice p (i + 1) t ≡ slice p i t ++ (getD t i 0 ∷ [])
+slice-more p i t h k =
+    let e : i + 1 - p ≡ suc (i - p) = omega arith in
+    let f : p + (i - p) ≡ i = omega arith in
+    rw (e, take-suc (drop p t) (i - p) 0 (rw length-drop (omega arith)), getD-drop, f) refl
+
+pub append-nil : (a : List ℕ) → a ++ [] ≡ a
+append-nil [] = refl
+append-nil (x ∷ xs) = ap (λ z. x ∷ z) (append-nil xs)
