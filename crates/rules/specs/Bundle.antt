@@ -10,12 +10,13 @@ use Rattle.rules.specs.Bytes.{isPath, join, holds, less}
 use Rattle.rules.specs.Layout.{Parser, bind, _>>=_, _>>_, pure, require, bit, left, byte, word16, fieldIf, times}
 
 -- A file of the bundle: its path, where its content starts in the bundle, its content.
+-- Without content, start is the place behind the entry's last field.
 pub record Entry : Type 0 where
   pub path : List ℕ
   pub start : ℕ
   pub content : List ℕ
 
--- One entry of a bundle of n bytes: map byte, folder (bit 0), file name (bit 1, must be set), content (bit 2).
+-- One entry of a bundle of n bytes: map byte (below 8: bits 3 to 7 are zero), folder (bit 0), file name (bit 1, must be set), content (bit 2).
 unfoldable pub entry : ℕ → Parser Entry
 entry n = do
   m ← byte
@@ -37,7 +38,8 @@ ascending (p ∷ q ∷ ps) = less p q && ascending (q ∷ ps)
 unfoldable pub above : List ℕ → List ℕ → Bool
 above p q = prefix (p ++ bytes "/") q
 
--- Paths of a bundle: each keeps the path rule, ascending, and none followed by `/` begins another.
+-- Paths of a bundle: each keeps the path rule, ascending, and none followed by `/` begins another. That is every pair, not only
+-- neighbours; a path with itself is harmless, for with the `/` it is longer.
 unfoldable pub goodPaths : List (List ℕ) → Bool
 goodPaths ps = all isPath ps && ascending ps && all (λ p. all (λ q. not (above p q)) ps) ps
 

@@ -70,6 +70,7 @@ less (x ∷ xs) (y ∷ ys) = ltb x y || (eqb x y && less xs ys)
 unfoldable pub isSegment : List ℕ → Bool
 isSegment s = all runByte s && not (empty s) && not (same s (bytes ".")) && not (same s (bytes ".."))
 
+-- Throughout: g a folder, p a path, t a text, s a sheet, v the bundle.
 -- A path: 1 to 255 bytes, segments parted by one `/`. A folder: a path or empty.
 unfoldable pub isPath : List ℕ → Bool
 isPath p = leb 1 (length p) && leb (length p) 255 && all isSegment (split "/" p)

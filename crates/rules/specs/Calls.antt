@@ -13,10 +13,11 @@ use Rattle.rules.specs.Bytes.{ascii, isPath, isFolder, parent}
 use Rattle.rules.specs.Bundle.{Entry, bundleOf}
 use Rattle.rules.specs.Files.{entryAt, isFolderOf, view, fetch}
 use Rattle.rules.specs.Sheet.{Records, encode, sheetLength, sheetOf, resolve, resolveString, kindOf}
-use Rattle.rules.specs.Pass.{included, expanded, passed, closed}
+use Rattle.rules.specs.Pass.{middleText, expanded, passed, closed}
 use Rattle.rules.specs.Imports.{definitions}
 
--- L: the sheet buffer's length; a longer one counts as 65,535.
+-- L: the sheet buffer's length; a longer one counts as 65,535. A sheet has one form only, so `sheetLength` of a given sheet's
+-- records is the length of its bytes.
 unfoldable pub limit : ℕ → ℕ
 limit l = min l 65535
 
@@ -29,7 +30,7 @@ padded n t = t ++ zeros (n - length t)
 
 -- A buffer of n bytes that holds a result of len bytes, and zero behind it.
 pub record Holds (n len : ℕ) (buffer : List ℕ) : Type 0 where
-  pub whole : length buffer ≡ n
+  pub size : length buffer ≡ n
   pub fits : len ≤ n
   pub behind : drop len buffer ≡ zeros (n - len)
 
@@ -73,7 +74,7 @@ resolveStringResult sheet path n = do
 unfoldable pub resolveStringOf : List ℕ → List ℕ → ℕ → Output
 resolveStringOf sheet path n = outputAnswer n (resolveStringResult sheet path n)
 
--- FIND A FILE: 2, 4. Kind: 0 absent, 1 folder, 2 file; a file's content stands at `start` in the bundle.
+-- FIND A FILE (not in 01: `manual` needs it): 2, 4. Kind: 0 absent, 1 folder, 2 file; a file's content stands at `start` in the bundle.
 pub record Found : Type 0 where
   pub number : ℕ
   pub kind : ℕ
@@ -104,7 +105,7 @@ resolveIncludesResult bundle folder text n = do
   es ← orRefuse 2 (bundleOf bundle)
   check 4 (isFolder folder)
   check 6 (all ascii text)
-  x ← included (view es) 11 n folder text
+  x ← middleText (view es) 11 n folder text
   accepted (x .0)
 
 unfoldable pub resolveIncludesOf : List ℕ → List ℕ → List ℕ → ℕ → Output
@@ -171,6 +172,7 @@ passedAnswer m n l c (refused k) = record { number = k; len = 0; sheetLen = 0; c
 passedAnswer m n l c (accepted x) = record { number = 0; len = length (x .0); sheetLen = length (encode (x .1)); closed = c; middle = zeros m; out = padded n (x .0); left = padded l (encode (x .1)) }
 
 -- Is the text closed, for a bundle, folder and sheet: none of 3, 4 and 6 for the arguments, and closed as section 6 says.
+-- A broken bundle is 2, not one of 3 to 8; nothing is closed for it.
 unfoldable pub closedIn : Option (List Entry) → List ℕ → Option Records → List ℕ → Bool
 closedIn none folder s text = false
 closedIn (some es) folder none text = false

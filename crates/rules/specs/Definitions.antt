@@ -11,7 +11,7 @@ use Rattle.rules.specs.Bytes.{blank, lineBlank, letter, word, nameByte, 
 use Rattle.rules.specs.Sheet.{Value, text, nothing, dictionary, Records, end, set, valueLength, resolveString}
 use Rattle.rules.specs.Strings.{literal, expression}
 
--- A value over L is refused.
+-- A value over L is refused. None and `()` are not measured alone: what holds them is longer and is measured next.
 unfoldable pub measured : ℕ → Value → Answer Value
 measured L v = elim (leb (valueLength v) L) [ true ↦ accepted v | false ↦ refused 9 ]
 
@@ -22,7 +22,7 @@ module _ (L : ℕ) (s : Records) where
     t ← expression (resolveString s)
     ret (measured L (text t))
 
-  -- inner: the dictionary behind a `(`. At the end of the text the last line reads nothing: none.
+  -- inner: the dictionary behind a `(`. At the end of the text every test fails and nothing is read: none.
   unfoldable pub value : Reader (Answer Value) → Reader (Answer Value)
   value inner = do
     span lineBlank

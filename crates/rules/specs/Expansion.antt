@@ -14,26 +14,27 @@ use Rattle.rules.specs.Strings.{literal, reference, expression}
 
 -- What a call comes to: handed back; refused; an output, and whether the call ends on its own `)` or `]`.
 pub data Call : Type 0 where
-  back : Call
-  refuse : ℕ → Call
-  says : Bool → List ℕ → Call
+  handsBack : Call
+  refuses : ℕ → Call
+  outputs : Bool → List ℕ → Call
 
 -- THE RAW CALL, behind its `(`. Its content: handed back; refused; a text.
 pub data Content : Type 0 where
   handedBack : Content
-  denied : ℕ → Content
+  noContent : ℕ → Content
   given : List ℕ → Content
 
-unfoldable pub contentOf : Answer (List ℕ) → Content
-contentOf (refused k) = denied k
-contentOf (accepted o) = given o
+unfoldable pub rawContent : Answer (List ℕ) → Content
+rawContent (refused k) = noContent k
+rawContent (accepted o) = given o
 
 -- One leading `/` dropped.
 unfoldable pub withoutSlash : List ℕ → List ℕ
 withoutSlash p = mark (bytes "/") p .1
 
 module _ (v : View) (look : List ℕ → List ℕ) where
-  -- Behind `read`: without `(` handed back; an expression as path, the folder empty; on behind the next `)`.
+  -- Behind `read`: without `(` handed back; an expression as path, the folder empty; on behind the next `)`. The file is opened
+  -- here: its 4, 5 and 6 come before 8.
   unfoldable pub readCall : Reader Content
   readCall = do
     span blank
@@ -44,7 +45,7 @@ module _ (v : View) (look : List ℕ → List ℕ) where
           path ← expression look
           span (but ")")
           skip
-          ret (contentOf (opened v (withoutSlash path))))
+          ret (rawContent (opened v (withoutSlash path))))
         (ret handedBack)
 
   unfoldable pub content : Reader Content
@@ -75,7 +76,7 @@ module _ (look : List ℕ → List ℕ) where
     w ← span letter
     ret (again (l, same w (bytes "true")))
 
-  -- a: language and block so far. n: the argument's name. moved: has the round moved so far.
+  -- a: language and block so far. n: the argument's name. moved: has the round moved so far; named `lang` or `block` it has.
   unfoldable pub argumentValue : List ℕ × Bool → List ℕ → Bool → Round
   argumentValue a n moved =
       ifR (same n (bytes "lang")) (langValue (a .1))
@@ -99,16 +100,16 @@ rawText o l true = bytes "```" ++ (l ++ (bytes "\n" ++ (trimEnd o ++ bytes "\n``
 rawText o l false = bytes "`" ++ (o ++ bytes "`")
 
 unfoldable pub rawEnd : List ℕ → Arguments → Reader Call
-rawEnd o stalled = ret (refuse 8)
+rawEnd o stalled = ret (refuses 8)
 rawEnd o (arguments l b) = do
   e ← sees (the ")")
   skip
-  ret (says e (rawText o l b))
+  ret (outputs e (rawText o l b))
 
 module _ (v : View) (look : List ℕ → List ℕ) where
   unfoldable pub rawArguments : Content → Reader Call
-  rawArguments handedBack = ret back
-  rawArguments (denied k) = ret (refuse k)
+  rawArguments handedBack = ret handsBack
+  rawArguments (noContent k) = ret (refuses k)
   rawArguments (given o) = do
     a ← rounds (argumentRound look) (λ a. arguments (a .0) (a .1)) ([], false)
     rawEnd o a
@@ -123,7 +124,7 @@ module _ (v : View) (look : List ℕ → List ℕ) where
 unfoldable pub linkText : List ℕ → List ℕ → List ℕ
 linkText u w = elim (empty w || same w u) [ true ↦ u | false ↦ bytes "#link(\"" ++ (u ++ (bytes "\")[" ++ (w ++ bytes "]"))) ]
 
--- At `)`: step over, skip line blanks, at `[` take text to `]` or the end and step over `]`.
+-- At `)`: step over, skip line blanks, at `[` take text to `]` or the end and step over `]`. Without `[` the text is empty: the address.
 unfoldable pub linkBox : List ℕ → Reader Call
 linkBox u = do
   skip
@@ -135,8 +136,8 @@ linkBox u = do
         w ← span (but "]")
         e ← sees (the "]")
         skip
-        ret (says e (linkText u w)))
-      (ret (says true u))
+        ret (outputs e (linkText u w)))
+      (ret (outputs true u))
 
 unfoldable pub linkEnd : List ℕ → Reader Call
 linkEnd u = do
@@ -146,13 +147,13 @@ linkEnd u = do
     span (but ")")
     e ← sees (the ")")
     skip
-    ret (says e u))
+    ret (outputs e u))
 
 unfoldable pub link : (List ℕ → List ℕ) → Reader Call
 link look = do
   span blank
   l ← sees (the "<")
-  ifR l (ret back) (do u ← expression look; linkEnd u)
+  ifR l (ret handsBack) (do u ← expression look; linkEnd u)
 
 -- ONE STEP. What a step does: an output and the same sheet; another sheet and no output.
 unfoldable pub writes : Records → List ℕ → Did Records
@@ -163,9 +164,9 @@ binds s = record { whole = true; emit = ok; state = s }
 
 -- A call has read to u, from its `(` at t. Handed back: mark and blanks, and on from the `(`; that is whole if it was before the end.
 unfoldable pub callDid : Records → List ℕ → Call → List ℕ → List ℕ → Did Records × List ℕ
-callDid s shown back u t = (record { whole = not (empty u); emit = put shown ok; state = s }, t)
-callDid s shown (refuse k) u t = (record { whole = true; emit = fail k; state = s }, u)
-callDid s shown (says w o) u t = (record { whole = w; emit = put o ok; state = s }, u)
+callDid s shown handsBack u t = (record { whole = not (empty u); emit = put shown ok; state = s }, t)
+callDid s shown (refuses k) u t = (record { whole = true; emit = fail k; state = s }, u)
+callDid s shown (outputs w o) u t = (record { whole = w; emit = put o ok; state = s }, u)
 
 unfoldable pub calling : Records → List ℕ → Reader Call → Reader (Did Records)
 calling s shown call t = let r = (skip >> call) t in callDid s shown (r .0) (r .1) t
@@ -199,7 +200,7 @@ letStep s = do
   skip
   ret (binds (set s (underscored n) (letValue (trim r) (resolve s (trim r)))))
 
--- `#` and a letter: the run. Before `(` output `#` and run unchanged; else the reference's text.
+-- `#` and a letter: the run. Before `(` output `#` and run unchanged; else the reference's text. `#` before any other byte is copied.
 unfoldable pub referenceStep : Step Records
 referenceStep s = do
   l ← sees letter

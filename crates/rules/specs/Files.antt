@@ -36,12 +36,13 @@ fileOf none false = absent
 unfoldable pub view : List Entry → View
 view es p = fileOf (entryAt es p) (isFolderOf es p)
 
--- A file's bytes: 4 where the path rule is broken, 5 where it is absent or a folder.
+-- A file's bytes: 5 where it is absent or a folder.
 unfoldable pub contentOf : File → Answer (List ℕ)
 contentOf absent = refused 5
 contentOf folder = refused 5
 contentOf (file c) = accepted c
 
+-- 4 where the path rule is broken, before 5.
 unfoldable pub fetch : View → List ℕ → Answer (List ℕ)
 fetch v p = check 4 (isPath p) >> contentOf (v p)
 

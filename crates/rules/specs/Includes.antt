@@ -55,11 +55,10 @@ sourceArguments = do
   ifR c (do skip; p ← quote; withPath p) (ret noParen)
 
 -- From the mark: over the first `)`; from there to the first newline.
-unfoldable pub overParen : Reader (List ℕ)
+unfoldable pub overParen : Reader (Unit {0})
 overParen = do
   span (but ")")
   skip
-  ret []
 
 unfoldable pub toNewline : Reader (List ℕ)
 toNewline = do
@@ -86,7 +85,7 @@ wrote w e = record { whole = w; emit = e; state = [] }
 unfoldable pub copied : List ℕ → Did (List ℕ)
 copied m = wrote true (put m ok)
 
--- One byte copied: behind a newline the stretch begins anew.
+-- One byte copied: behind a newline the stretch begins anew. The first line is never asked: a run steps only where a byte stands.
 unfoldable pub copyByte : Step (List ℕ)
 copyByte h [] = (copied [], [])
 copyByte h (x ∷ xs) = (record { whole = true; emit = put (x ∷ []) ok; state = elim (the "\n" x) [ true ↦ [] | false ↦ h ++ (x ∷ []) ] }, xs)
@@ -119,7 +118,8 @@ module _ (v : View) (inside : List ℕ → List ℕ → Emit) (g : List ℕ) whe
   unfoldable pub sourceMark : Reader (Did (List ℕ))
   sourceMark t = let r = sourceArguments t in sourceOf (r .0) (r .1) (toNewline t .1) t
 
-  -- One step: a commented mark is copied, a mark is taken, any other byte is copied.
+  -- One step: a commented mark is copied, a mark is taken, any other byte is copied. Byte by byte: neither mark holds the other's
+  -- `#`, so the first place where one stands is the earliest.
   unfoldable pub includeStep : Step (List ℕ)
   includeStep h = do
     i ← mark (bytes "#include")
@@ -128,7 +128,8 @@ module _ (v : View) (inside : List ℕ → List ℕ → Emit) (g : List ℕ) whe
       ifR s (ifR (commented h) (ret (copied (bytes "#source-include"))) sourceMark) (copyByte h))
 
 module _ (v : View) where
-  -- The text c of an included file with the folder g, l levels left: 7, then 6.
+  -- The text c of an included file with the folder g, l levels left: 7, then 6. Only what it writes or refuses is kept: its marks
+  -- are not the text's own (section 6).
   unfoldable pub insideFile : ℕ → List ℕ → List ℕ → Emit
   insideFile zero g c = fail 7
   insideFile (suc l) g c = elim (all ascii c) [ true ↦ emitted (run (includeStep v (insideFile l) g) [] 0 c) | false ↦ fail 6 ]

@@ -1,7 +1,7 @@
 -- The program `manual` (01, section 10), from standard input to what it writes.
 use mathlib.Core.Bool.{Bool, true, false}
 use mathlib.Core.List.{List, [], _∷_, _++_}
-use Prim.Native.Nat.{ℕ, zero, suc, _+_, _/_, _%_}
+use Prim.Native.Nat.{ℕ, zero, suc, _+_, _*_, _/_, _%_}
 use lib.Dec.{leb, ltb}
 use lib.ListN.{length, take}
 use Rattle.rules.specs.Answer.{Answer, refused, accepted, _>>=_, _>>_, check, orRefuse}
@@ -29,7 +29,7 @@ outputFrom p = answered (p .number) (take (p .len) (p .out))
 unfoldable pub built : List ℕ → Answer (List ℕ)
 built b = do
   check 2 (leb (length b) 16384)
-  s ← sheetFrom (parseDefinitionsOf b (bytes "defs.typ") 1024 16384)
+  s ← sheetFrom (parseDefinitionsOf b (bytes "defs.typ") 1024 (16 * 1024))
   es ← orRefuse 2 (bundleOf b)
   t ← fetch (view es) (bytes "main.typ")
   outputFrom (passOf b [] t s 32768 32768 1024)

@@ -63,9 +63,9 @@ module _ {S : Type 0} where
       step (r .0) (run f (r .0 .state) (length xs - length (r .1)) xs)
 
   -- Nothing refused, and every step whole.
-  unfoldable pub calm : Trace S → Bool
-  calm (fin s) = true
-  calm (step d t) = d .whole && unrefused (d .emit) && calm t
+  unfoldable pub allWhole : Trace S → Bool
+  allWhole (fin s) = true
+  allWhole (step d t) = d .whole && unrefused (d .emit) && allWhole t
 
   -- All that a run writes: in order, as bytes, and the state that it leaves.
   unfoldable pub emitted : Trace S → Emit
@@ -80,7 +80,8 @@ module _ {S : Type 0} where
   final (fin s) = s
   final (step d t) = final t
 
--- The pieces into r bytes of room; the first that does not fit is refusal `full`.
+-- The pieces into r bytes of room; the first that does not fit is refusal `full`. A refused call leaves no output, so refusing the
+-- whole piece is refusing at its first byte too many.
 unfoldable pub write : ℕ → ℕ → Emit → Answer (List ℕ)
 write full r ok = accepted []
 write full r (put o e) = do
@@ -90,6 +91,7 @@ write full r (put o e) = do
 write full r (fail k) = refused k
 
 -- The run with its limits: a state of at most L bytes (refusal 9), and r bytes of room for what is written (refusal `full`).
+-- No step both binds and writes, and an unchanged state was measured before: 9 is met exactly at the binding.
 module _ {S : Type 0} (size : S → ℕ) (L full : ℕ) where
   unfoldable pub limited : ℕ → Trace S → Answer (List ℕ × S)
   limited r (fin s) = accepted ([], s)

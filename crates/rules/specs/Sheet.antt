@@ -10,6 +10,7 @@ use Rattle.rules.specs.Bytes.{ascii, word, nameByte, less, split}
 use Rattle.rules.specs.Layout.{Parser, bind, _>>=_, _>>_, pure, broken, bit, byte, word16, field, fieldIf}
 
 -- A value (the Rust's `TypstValue`): a text, none, or a dictionary. Records: names with their values, in order.
+-- `nothing` is 01's none; `none` is the library's word for what is missing.
 mutual
   pub data Value : Type 0 where
     text : List ℕ → Value
@@ -62,7 +63,7 @@ valueLength v = length (encode (rec [] v end))
 
 -- THE LAYOUT. `records k` reads the k records of a dictionary.
 module _ (records : ℕ → Parser Records) where
-  -- By bits 1 to 3, as the number k: at most one is set, and bits 4 to 7 are zero.
+  -- k: the map byte without bit 0. 0 the empty text, 1 text, 2 dictionary, 4 none; any other sets two of bits 1 to 3, or one of bits 4 to 7.
   unfoldable pub value : ℕ → Parser Value
   value k =
       elim (eqb k 0) [
@@ -100,7 +101,7 @@ module _ (records : ℕ → Parser Records) where
   allRecords (suc n) [] = some end
   allRecords (suc n) (x ∷ xs) = bind (oneRecord (x ∷ xs)) (λ y. bind (allRecords n (y .1)) (λ r. some (rec (y .0 .0) (y .0 .1) r)))
 
--- Six dictionary levels at most: l are left.
+-- Six dictionary levels at most: l are left. A record has a byte or more, so `length b` records are enough below.
 unfoldable pub levels : ℕ → ℕ → Parser Records
 levels zero n = broken
 levels (suc l) n = someRecords (λ k. levels l k) n
@@ -125,7 +126,8 @@ unfoldable mutual
   goodRecords end p l = true
   goodRecords (rec n v r) p l = all p n && before n r && goodValue v l && goodRecords r p l
 
--- A sheet's records, or none where its bytes break the layout (refusal 3). At most 65,535 bytes.
+-- A sheet's records, or none where its bytes break the layout (refusal 3). At most 65,535 bytes. The levels are tested twice:
+-- reading stops at the seventh, and `goodRecords` says it of the tree.
 unfoldable pub sheetOf : List ℕ → Option Records
 sheetOf b = bind (decode b) (λ r. elim (goodRecords r word 6 && leb (length b) 65535) [ true ↦ some r | false ↦ none ])
 

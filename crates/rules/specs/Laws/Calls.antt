@@ -19,7 +19,7 @@ use Rattle.rules.specs.Files.{View, entryAt, isFolderOf, view, fetch}
 use Rattle.rules.specs.Sheet.{Records, encode, sheetLength, sheetOf, resolveString}
 use Rattle.rules.specs.Includes.{includes}
 use Rattle.rules.specs.Expansion.{expansion}
-use Rattle.rules.specs.Pass.{included, expanded, passed, closed}
+use Rattle.rules.specs.Pass.{middleText, expanded, passed, closed}
 use Rattle.rules.specs.Calls.{limit, zeros, padded, Holds, Found, foundEntry, foundAnswer, findFileResult, findFileOf, Output, outputAnswer, resolveStringResult, resolveStringOf, resolveIncludesResult, resolveIncludesOf, Expanded, expandedAnswer, preprocessTypstResult, preprocessTypstOf, Defined, definedAnswer, parseDefinitionsResult, parseDefinitionsOf, resolveResult, Passed, passedAnswer, closedIn, closedOf, passResult, passOf}
 use Rattle.rules.specs.Parts.{sheetLeft, Setting, pass, isClosed}
 use Rattle.rules.specs.Laws.Bool.{or-i-r, true-leb}
@@ -51,14 +51,14 @@ module _ {A R : Type 0} (form : Answer A → R) (number : R → ℕ) (of-refused
 holds-padded : (n : ℕ) (o : List ℕ) → length o ≤ n → Holds n (length o) (padded n o)
 unfolding padded zeros
 holds-padded n o h = record {
-  whole = simp (length-append, length-replicate) (omega arith);
+  size = simp (length-append, length-replicate) (omega arith);
   fits = h;
   behind = drop-append-seam o (replicate (n - length o) 0);
 }
 
 holds-zeros : (n : ℕ) → Holds n 0 (zeros n)
 unfolding zeros
-holds-zeros n = record { whole = length-replicate n 0; fits = omega arith; behind = rw sub-zero }
+holds-zeros n = record { size = length-replicate n 0; fits = omega arith; behind = rw sub-zero }
 
 holds-output : (n : ℕ) (x : Answer (List ℕ)) → ((o : List ℕ) → x ≡ accepted o → length o ≤ n) → Holds n (outputAnswer n x .len) (outputAnswer n x .out)
 unfolding outputAnswer
@@ -119,12 +119,12 @@ resolveString-holds sheet path n = holds-output n (resolveStringResult sheet pat
 
 -- INCLUDES.
 resolveIncludes-fits : (bundle folder text : List ℕ) (n : ℕ) (o : List ℕ) → resolveIncludesResult bundle folder text n ≡ accepted o → length o ≤ n
-unfolding resolveIncludesResult included
+unfolding resolveIncludesResult middleText
 resolveIncludes-fits bundle folder text n o q =
     let i = bind-inv (orRefuse 2 (bundleOf bundle)) _ q in
     let j = check-inv 4 (isFolder folder) _ (i .2) in
     let m = check-inv 6 (all ascii text) _ (j .1) in
-    let x = bind-inv (included (view (i .0)) 11 n folder text) _ (m .1) in
+    let x = bind-inv (middleText (view (i .0)) 11 n folder text) _ (m .1) in
     let e : length (x .0 .0) ≡ length o = ap length (accepted-same (x .2)) in
     omega (arith, limited-fits (λ h. 0) 0 11 (includes (view (i .0)) folder text) n (x .1))
 
@@ -220,10 +220,10 @@ resolveString-numbered sheet path n =
     numbered-bind (orRefuse 3 (sheetOf sheet)) _ (numbered-orRefuse _ _ refl) (λ s. numbered-check _ (all ascii path) _ refl (numbered-check _ (leb (length (resolveString s path)) n) _ refl (numbered-accepted _)))
 
 pub resolveIncludes-numbered : (bundle folder text : List ℕ) (n : ℕ) → numbered (resolveIncludesResult bundle folder text n) ≡ true
-unfolding resolveIncludesResult included isRefusal
+unfolding resolveIncludesResult middleText isRefusal
 resolveIncludes-numbered bundle folder text n =
     numbered-bind (orRefuse 2 (bundleOf bundle)) _ (numbered-orRefuse _ _ refl) (λ es. numbered-check _ (isFolder folder) _ refl (numbered-check _ (all ascii text) _ refl
-    (numbered-bind (included (view es) 11 n folder text) _ (limited-numbered (λ h. 0) 0 11 refl (includes (view es) folder text) n (includes-numbered (view es) folder text)) (λ x. numbered-accepted _))))
+    (numbered-bind (middleText (view es) 11 n folder text) _ (limited-numbered (λ h. 0) 0 11 refl (includes (view es) folder text) n (includes-numbered (view es) folder text)) (λ x. numbered-accepted _))))
 
 pub preprocessTypst-numbered : (bundle text sheet : List ℕ) (n l : ℕ) → numbered (preprocessTypstResult bundle text sheet n l) ≡ true
 unfolding preprocessTypstResult expanded isRefusal
@@ -240,7 +240,7 @@ module _ (k : Setting) where
   unfolding passed
   pass-ready sheet t y q =
       let r = ran-inv k sheet t y q in
-      let i = bind-inv (included (view (r .entries)) 10 (k .middleLen) (k .folder) t) _ (r .ran) in
+      let i = bind-inv (middleText (view (r .entries)) 10 (k .middleLen) (k .folder) t) _ (r .ran) in
       record { output = expanded-fits (view (r .entries)) (limit (k .leftLen)) (k .outLen) (r .records) (i .0 .0) y (i .2); sheet = ran-kept k sheet t y r }
 
   passed-holds : (c : Bool) (x : Answer (List ℕ × Records)) → ((y : List ℕ × Records) → x ≡ accepted y → Ready (k .outLen) (k .leftLen) y) →

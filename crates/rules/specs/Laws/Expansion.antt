@@ -5,21 +5,21 @@ use mathlib.Core.Bool.{Bool, true, false, not, _&&_, true≢false}
 use Prim.Native.Nat.{ℕ, zero, suc}
 use native.Mathlib.Omega.{arith}
 use Rattle.rules.specs.Reader.{Reader, ret, ifR, _>>=_, _>>_, bytes, the, but, either, empty, span, sees, skip, mark, rounds}
-use Rattle.rules.specs.Run.{Emit, unrefused, Did, Trace, run, calm, endsInNewline}
+use Rattle.rules.specs.Run.{Emit, unrefused, Did, Trace, run, allWhole, endsInNewline}
 use Rattle.rules.specs.Bytes.{blank, lineBlank, letter, digit, word, nameByte, runByte}
 use Rattle.rules.specs.Files.{View}
 use Rattle.rules.specs.Sheet.{Records}
 use Rattle.rules.specs.Strings.{reference, plus, expressionRound, expression}
-use Rattle.rules.specs.Expansion.{Call, back, refuse, says, Content, handedBack, denied, given, readCall, content, Arguments, stalled, arguments, langValue, blockValue, argumentValue, argumentRound, rawText, rawEnd, rawArguments, raw, linkBox, linkEnd, link, callDid, calling, callStep, importStep, letStep, referenceStep, copyStep, expansionStep, expansion}
+use Rattle.rules.specs.Expansion.{Call, handsBack, refuses, outputs, Content, handedBack, noContent, given, readCall, content, Arguments, stalled, arguments, langValue, blockValue, argumentValue, argumentRound, rawText, rawEnd, rawArguments, raw, linkBox, linkEnd, link, callDid, calling, callStep, importStep, letStep, referenceStep, copyStep, expansionStep, expansion}
 use Rattle.rules.specs.Laws.Limit.{joinRuns}
 use Rattle.rules.specs.Laws.Read.{Some, newline-tail, Good, Line, good-bind, good-skip, good-span, good-rounds, line-span, line-sees, line-mark, inline}
 use Rattle.rules.specs.Laws.Steps.{goods, good-sees, good-mark, Steps, steps-ret, steps-skip, steps-if, steps-bind, steps-then, run-append, Sure, sure-no, sure-if, sure-bind, sure-then, sure-close, surein-sure, surein-ret, surein-if, surein-bind, surein-then, sure-over, some-not, empty-append}
 
 -- Does a call end on its own byte.
 unfoldable ended : Call → Bool
-ended back = false
-ended (refuse k) = false
-ended (says w o) = w
+ended handsBack = false
+ended (refuses k) = false
+ended (outputs w o) = w
 
 module _ (look : List ℕ → List ℕ) where
   good-reference : Good (reference look)
@@ -53,7 +53,7 @@ good-rawEnd o (arguments l b) = search goods
 
 sure-rawEnd : (o : List ℕ) (a : Arguments) → Sure ended (rawEnd o a)
 unfolding rawEnd ended
-sure-rawEnd o stalled = sure-no ended (refuse 8) refl
+sure-rawEnd o stalled = sure-no ended (refuses 8) refl
 sure-rawEnd o (arguments l b) = sure-close ended ")" _ (unfold the in refl) refl
 
 module _ (v : View) (look : List ℕ → List ℕ) where
@@ -68,7 +68,7 @@ module _ (v : View) (look : List ℕ → List ℕ) where
   good-rawArguments : (c : Content) → Good (rawArguments v look c)
   unfolding rawArguments
   good-rawArguments handedBack = search goods
-  good-rawArguments (denied k) = search goods
+  good-rawArguments (noContent k) = search goods
   good-rawArguments (given o) = good-bind (good-rounds (argumentRound look) (λ a. arguments (a .0) (a .1)) (good-argumentRound look) ([], false)) (good-rawEnd o)
 
   good-raw : Good (raw v look)
@@ -77,8 +77,8 @@ module _ (v : View) (look : List ℕ → List ℕ) where
 
   sure-rawArguments : (c : Content) → Sure ended (rawArguments v look c)
   unfolding rawArguments ended
-  sure-rawArguments handedBack = sure-no ended back refl
-  sure-rawArguments (denied k) = sure-no ended (refuse k) refl
+  sure-rawArguments handedBack = sure-no ended handsBack refl
+  sure-rawArguments (noContent k) = sure-no ended (refuses k) refl
   sure-rawArguments (given o) = sure-bind ended (good-rounds (argumentRound look) (λ a. arguments (a .0) (a .1)) (good-argumentRound look) ([], false)) (sure-rawEnd o)
 
   sure-raw : Sure ended (raw v look)
@@ -102,22 +102,22 @@ unfolding linkEnd linkBox ended lineBlank blank but
 sure-linkEnd u = sure-then ended (good-span blank) (sure-over ended ")" _ _ (unfold the in refl)
     (surein-then ended (line-span lineBlank refl) (surein-bind ended (line-sees (the "[")) (λ b. surein-if ended b
     (surein-sure ended (sure-then ended good-skip (sure-bind ended (good-span (but "]")) (λ w. sure-close ended "]" _ (unfold the in refl) refl))))
-    (surein-ret ended (says true u)))))
+    (surein-ret ended (outputs true u)))))
     (sure-then ended (good-span (but ")")) (sure-close ended ")" _ (unfold the in refl) refl)))
 
 sure-link : (look : List ℕ → List ℕ) → Sure ended (link look)
 unfolding link ended
-sure-link look = sure-then ended (good-span blank) (sure-bind ended (good-sees (the "<")) (λ l. sure-if ended l (sure-no ended back refl) (sure-bind ended (good-expression look) sure-linkEnd)))
+sure-link look = sure-then ended (good-span blank) (sure-bind ended (good-sees (the "<")) (λ l. sure-if ended l (sure-no ended handsBack refl) (sure-bind ended (good-expression look) sure-linkEnd)))
 
 call-at : (s : Records) (shown : List ℕ) (call : Reader Call) (C : Good call) (O : Sure ended call) (x : ℕ) (xs b : List ℕ) (c : Call) → call xs .0 ≡ c → endsInNewline xs ≡ true →
     callDid s shown c (call xs .1) (x ∷ xs) .0 .whole ≡ true → unrefused (callDid s shown c (call xs .1) (x ∷ xs) .0 .emit) ≡ true →
     callDid s shown (call (xs ++ b) .0) (call (xs ++ b) .1) (x ∷ (xs ++ b)) ≡ (callDid s shown c (call xs .1) (x ∷ xs) .0, callDid s shown c (call xs .1) (x ∷ xs) .1 ++ b)
 unfolding callDid unrefused
-call-at s shown call C O x xs b back p e w o =
+call-at s shown call C O x xs b handsBack p e w o =
     let k = some-not (call xs .1) w in
     rw (C .local xs b e k, p, empty-append (call xs .1) b k)
-call-at s shown call C O x xs b (refuse k) p e w o = absurd (true≢false (sym o))
-call-at s shown call C O x xs b (says c out) p e w o =
+call-at s shown call C O x xs b (refuses k) p e w o = absurd (true≢false (sym o))
+call-at s shown call C O x xs b (outputs c out) p e w o =
     let k = O .sure xs e (ap ended p ∙ (unfold ended in w)) in
     rw (C .local xs b e k, p)
 
@@ -160,6 +160,6 @@ unfolding expansionStep inline
 steps-expansion v s = search (lines, steps-import, steps-let, steps-call, steps-reference, good-raw, sure-raw, good-link, sure-link) depth 20
 
 -- The expansion of a ++ b.
-pub expansion-append : (v : View) (s : Records) (a b : List ℕ) → endsInNewline a ≡ true → calm (expansion v s a) ≡ true → expansion v s (a ++ b) ≡ joinRuns (expansion v s a) (λ s′. expansion v s′ b)
+pub expansion-append : (v : View) (s : Records) (a b : List ℕ) → endsInNewline a ≡ true → allWhole (expansion v s a) ≡ true → expansion v s (a ++ b) ≡ joinRuns (expansion v s a) (λ s′. expansion v s′ b)
 unfolding expansion
 expansion-append v s a b e c = run-append (expansionStep v) (steps-expansion v) a b s 0 (omega arith) e c

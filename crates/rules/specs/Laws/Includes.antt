@@ -10,7 +10,7 @@ use lib.Dec.{eqb, eqb→eq}
 use lib.ListN.{length}
 use Rattle.rules.specs.Answer.{Answer, refused, accepted}
 use Rattle.rules.specs.Reader.{Reader, ret, ifR, _>>=_, _>>_, bytes, the, but, empty, prefix, span, sees, skip, mark}
-use Rattle.rules.specs.Run.{Emit, ok, put, fail, unrefused, pieces, Did, Step, Trace, fin, step, run, calm, written, final, endsInNewline}
+use Rattle.rules.specs.Run.{Emit, ok, put, fail, unrefused, pieces, Did, Step, Trace, fin, step, run, allWhole, written, final, endsInNewline}
 use Rattle.rules.specs.Bytes.{blank, trim}
 use Rattle.rules.specs.Files.{View}
 use Rattle.rules.specs.Includes.{commented, Quoted, unquoted, quoted, quotedIf, quote, Source, noParen, noPath, noLanguage, source, withLanguage, withPath, sourceArguments, overParen, toNewline, behindSource, lastNewline, fenced, wrote, copied, copyByte, included, includeOf, includeMark, sourceText, sourceOf, sourceMark, includeStep, insideFile, includes}
@@ -112,7 +112,7 @@ module _ (v : View) (inside : List ℕ → List ℕ → Emit) (g : List ℕ) whe
   steps-includes h = search (steps-bind, steps-if, steps-ret, line-mark, steps-include, steps-source, steps-copyByte) depth 12
 
 -- The includes of a ++ b.
-pub includes-append : (v : View) (g a b : List ℕ) → endsInNewline a ≡ true → calm (includes v g a) ≡ true →
+pub includes-append : (v : View) (g a b : List ℕ) → endsInNewline a ≡ true → allWhole (includes v g a) ≡ true →
     includes v g (a ++ b) ≡ joinRuns (includes v g a) (λ h. run (includeStep v (insideFile v 6) g) h 0 b)
 unfolding includes
 includes-append v g a b e c = run-append (includeStep v (insideFile v 6) g) (steps-includes v (insideFile v 6) g) a b [] 0 (omega arith) e c
@@ -177,8 +177,8 @@ module _ (f : Step (List ℕ)) (alone : (h : List ℕ) → f h (10 ∷ []) .1 �
         clear = s .clear;
       }
 
-  sealed : (a h : List ℕ) (k : ℕ) → k ≤ length a → endsInNewline a ≡ true → calm (run f h k a) ≡ true → (length a ≤ k → h ≡ []) → Sealed h k a
-  unfolding run written final calm endsInNewline
+  sealed : (a h : List ℕ) (k : ℕ) → k ≤ length a → endsInNewline a ≡ true → allWhole (run f h k a) ≡ true → (length a ≤ k → h ≡ []) → Sealed h k a
+  unfolding run written final allWhole endsInNewline
   sealed [] h k l e c z = record { newline = refl; something = λ q. absurd (omega arith); nothing = λ q. refl; clear = z (omega arith) }
   sealed (x ∷ xs) h (suc k) l e c z =
       let s = sealed xs h k (omega arith) (newline-tail x xs e) c (λ q. z (omega arith)) in
@@ -187,7 +187,7 @@ module _ (f : Step (List ℕ)) (alone : (h : List ℕ) → f h (10 ∷ []) .1 �
       let d = f h (x ∷ xs) .0 in
       let r = f h (x ∷ xs) .1 in
       let t = run f (d .state) (length xs - length r) xs in
-      let wo : (d .whole && unrefused (d .emit)) ≡ true = and-l _ (calm t) c in
+      let wo : (d .whole && unrefused (d .emit)) ≡ true = and-l _ (allWhole t) c in
       let w : d .whole ≡ true = and-l _ (unrefused (d .emit)) wo in
       let o : unrefused (d .emit) ≡ true = and-r (d .whole) _ wo in
       seal-step h x xs e w o
@@ -270,14 +270,14 @@ module _ (v : View) (inside : List ℕ → List ℕ → Emit) (g : List ℕ) whe
   unfolding includeStep mark prefix _>>=_ ifR copyByte
   include-alone h = refl
 
-  run-sealed : (a : List ℕ) → endsInNewline a ≡ true → calm (run (includeStep v inside g) [] 0 a) ≡ true →
+  run-sealed : (a : List ℕ) → endsInNewline a ≡ true → allWhole (run (includeStep v inside g) [] 0 a) ≡ true →
       (endsInNewline (written (run (includeStep v inside g) [] 0 a)) ≡ true) × (final (run (includeStep v inside g) [] 0 a) ≡ [])
   run-sealed a e c =
       let s = sealed (includeStep v inside g) include-alone (λ h x xs e₁ w o z. closes-includes h .closes (x ∷ xs) e₁ tt w o z) a [] 0 (omega arith) e c (λ z. refl) in
       (s .newline, s .clear)
 
 -- A closed text's middle text is empty or ends in newline, and its run ends where a new stretch begins.
-pub includes-sealed : (v : View) (g a : List ℕ) → endsInNewline a ≡ true → calm (includes v g a) ≡ true →
+pub includes-sealed : (v : View) (g a : List ℕ) → endsInNewline a ≡ true → allWhole (includes v g a) ≡ true →
     (endsInNewline (written (includes v g a)) ≡ true) × (final (includes v g a) ≡ [])
 unfolding includes
 includes-sealed v g a e c = run-sealed v (insideFile v 6) g a e c

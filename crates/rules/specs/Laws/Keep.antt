@@ -11,7 +11,7 @@ use Rattle.rules.specs.Run.{Did, Step, Trace, run, limited}
 use Rattle.rules.specs.Bytes.{ascii, word, nameByte, lineBlank, underscored, trim}
 use Rattle.rules.specs.Files.{View}
 use Rattle.rules.specs.Sheet.{Records, resolve, set}
-use Rattle.rules.specs.Expansion.{Call, back, refuse, says, letValue, writes, binds, callDid, calling, callStep, importStep, letStep, referenceStep, copyStep, expansionStep, expansion}
+use Rattle.rules.specs.Expansion.{Call, handsBack, refuses, outputs, letValue, writes, binds, callDid, calling, callStep, importStep, letStep, referenceStep, copyStep, expansionStep, expansion}
 use Rattle.rules.specs.Laws.Answer.{accepted-same}
 use Rattle.rules.specs.Laws.Limit.{limited-inv, Stepped}
 use Rattle.rules.specs.Laws.Texts.{all-tail, span-all, Clean, clean-span, clean-sees, clean-mark, clean-skip, trim-all, underscored-words}
@@ -66,9 +66,9 @@ module _ (P : Records → Type 0) (small : Records → Bool)
 
   keeps-call : (s : Records) (shown : List ℕ) (c : Call) (u t : List ℕ) → P s → P (callDid s shown c u t .0 .state)
   unfolding callDid
-  keeps-call s shown back u t p = p
-  keeps-call s shown (refuse k) u t p = p
-  keeps-call s shown (says w o) u t p = p
+  keeps-call s shown handsBack u t p = p
+  keeps-call s shown (refuses k) u t p = p
+  keeps-call s shown (outputs w o) u t p = p
 
   keeps-calling : (s : Records) (shown : List ℕ) (call : Reader Call) → P s → Keeps (calling s shown call)
   unfolding calling

@@ -7,7 +7,7 @@ use Rattle.rules.specs.Reader.{Reader, ret, ifR, _>>=_, _>>_, skip}
 use Rattle.rules.specs.Run.{Emit, ok, put, fail, unrefused, Did}
 use Rattle.rules.specs.Files.{View}
 use Rattle.rules.specs.Sheet.{Records}
-use Rattle.rules.specs.Expansion.{Call, back, refuse, says, writes, binds, callDid, calling, callStep, importStep, letStep, referenceStep, copyStep, expansionStep}
+use Rattle.rules.specs.Expansion.{Call, handsBack, refuses, outputs, writes, binds, callDid, calling, callStep, importStep, letStep, referenceStep, copyStep, expansionStep}
 use Rattle.rules.specs.Laws.Refusals.{Yields, yields-if, yields-bind, yields-then}
 
 -- At most one piece, and no refusal behind it.
@@ -31,9 +31,9 @@ didOnce d = once (d .emit)
 
 call-once : (s : Records) (shown : List ℕ) (c : Call) (u t : List ℕ) → didOnce (callDid s shown c u t .0) ≡ true
 unfolding callDid didOnce once
-call-once s shown back u t = refl
-call-once s shown (refuse k) u t = refl
-call-once s shown (says w o) u t = refl
+call-once s shown handsBack u t = refl
+call-once s shown (refuses k) u t = refl
+call-once s shown (outputs w o) u t = refl
 
 once-calling : (s : Records) (shown : List ℕ) (call : Reader Call) → Yields didOnce (calling s shown call)
 unfolding calling

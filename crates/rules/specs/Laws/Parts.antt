@@ -17,7 +17,7 @@ use Rattle.rules.specs.Files.{View, view}
 use Rattle.rules.specs.Sheet.{Value, text, Records, encode, sheetLength, sheetOf, goodValue, goodRecords, resolve, set}
 use Rattle.rules.specs.Includes.{includes}
 use Rattle.rules.specs.Expansion.{letValue, expansion}
-use Rattle.rules.specs.Pass.{included, expanded, passed, closed}
+use Rattle.rules.specs.Pass.{middleText, expanded, passed, closed}
 use Rattle.rules.specs.Calls.{limit, zeros, padded, Passed, passedAnswer, closedIn, closedOf, passResult, passOf}
 use Rattle.rules.specs.Parts.{outputOf, sheetLeft, Setting, pass, isClosed, passes, closedParts, joined, allAccepted, outputs, lastSheet}
 use Rattle.rules.specs.Laws.Bool.{and-l, and-r, and-i, true-leb}
@@ -44,14 +44,14 @@ expanded-kept v L n s t y e p a =
     expansion-keeps v sheetLength L n (Kept L)
     (λ z m u k w h l. record { good = set-good z word 6 m _ (k .good) w (let-good z u (resolve z u) refl (k .good) h); small = l }) s t y e p a
 
-included-plain : (v : View) (full m : ℕ) (g t : List ℕ) (x : List ℕ × List ℕ) → all ascii t ≡ true → included v full m g t ≡ accepted x → all ascii (x .0) ≡ true
-unfolding included
+included-plain : (v : View) (full m : ℕ) (g t : List ℕ) (x : List ℕ × List ℕ) → all ascii t ≡ true → middleText v full m g t ≡ accepted x → all ascii (x .0) ≡ true
+unfolding middleText
 included-plain v full m g t x e a = ap (λ z. all ascii (z .0)) (limited-text (λ h. 0) 0 full (includes v g t) m a) ∙ middle-plain v g t e
 
 passed-kept : (v : View) (L m n : ℕ) (g : List ℕ) (s : Records) (t : List ℕ) (y : List ℕ × Records) → all ascii t ≡ true → Kept L s → passed v L m n g s t ≡ accepted y → Kept L (y .1)
 unfolding passed
 passed-kept v L m n g s t y e p a =
-    let i = bind-inv (included v 10 m g t) _ a in
+    let i = bind-inv (middleText v 10 m g t) _ a in
     expanded-kept v L n s (i .0 .0) y (included-plain v 10 m g t (i .0) e (i .1)) p (i .2)
 
 limit-le : (l : ℕ) → limit l ≤ 65535
@@ -191,11 +191,11 @@ module _ (k : Setting) where
 
   -- THE NUMBER says whether the result is accepted.
   pub result-numbered : (sheet t : List ℕ) → numbered (result sheet t) ≡ true
-  unfolding passResult passed included expanded isRefusal
+  unfolding passResult passed middleText expanded isRefusal
   result-numbered sheet t =
       let L = limit (k .leftLen) in
       numbered-bind (orRefuse 2 (bundleOf (k .bundle))) _ (numbered-orRefuse 2 _ refl) (λ es.
       numbered-bind (orRefuse 3 (sheetOf sheet)) _ (numbered-orRefuse 3 _ refl) (λ s.
       numbered-check 4 (isFolder (k .folder)) _ refl (numbered-check 6 (all ascii t) _ refl (numbered-check 9 (leb (sheetLength s) L) _ refl
-      (numbered-bind (included (view es) 10 (k .middleLen) (k .folder) t) _ (limited-numbered (λ h. 0) 0 10 refl (includes (view es) (k .folder) t) (k .middleLen) (includes-numbered (view es) (k .folder) t))
+      (numbered-bind (middleText (view es) 10 (k .middleLen) (k .folder) t) _ (limited-numbered (λ h. 0) 0 10 refl (includes (view es) (k .folder) t) (k .middleLen) (includes-numbered (view es) (k .folder) t))
       (λ x. limited-numbered sheetLength L 11 refl (expansion (view es) s (x .0)) (k .outLen) (expansion-numbered (view es) s (x .0))))))))

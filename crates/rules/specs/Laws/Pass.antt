@@ -6,12 +6,12 @@ use Prim.Native.Nat.{ℕ, _-_, _≤_}
 use native.Mathlib.Omega.{arith}
 use lib.ListN.{length}
 use Rattle.rules.specs.Answer.{Answer, refused, accepted, _>>=_}
-use Rattle.rules.specs.Run.{Trace, run, calm, written, final, limited, endsInNewline}
+use Rattle.rules.specs.Run.{Trace, run, allWhole, written, final, limited, endsInNewline}
 use Rattle.rules.specs.Files.{View}
 use Rattle.rules.specs.Sheet.{Records, sheetLength}
 use Rattle.rules.specs.Includes.{includeStep, insideFile, includes}
 use Rattle.rules.specs.Expansion.{expansion}
-use Rattle.rules.specs.Pass.{included, expanded, passed, closed}
+use Rattle.rules.specs.Pass.{middleText, expanded, passed, closed}
 use Rattle.rules.specs.Laws.Bool.{and-l, and-r}
 use Rattle.rules.specs.Laws.Answer.{bind-inv, bind-accepted}
 use Rattle.rules.specs.Laws.Limit.{limited-mono, limited-split, limited-text, Parts}
@@ -23,13 +23,13 @@ module _ (v : View) where
   record Middles (full m : ℕ) (g a c : List ℕ) (x : List ℕ × List ℕ) : Type 0 where
     first : List ℕ
     second : List ℕ × List ℕ
-    included-first : included v full m g a ≡ accepted (first, [])
-    included-second : included v full m g c ≡ accepted second
+    included-first : middleText v full m g a ≡ accepted (first, [])
+    included-second : middleText v full m g c ≡ accepted second
     first-is : first ≡ written (includes v g a)
     both : x ≡ (first ++ second .0, second .1)
 
-  included-split : (full m : ℕ) (g a c : List ℕ) (x : List ℕ × List ℕ) → endsInNewline a ≡ true → calm (includes v g a) ≡ true → included v full m g (a ++ c) ≡ accepted x → Middles full m g a c x
-  unfolding included includes
+  included-split : (full m : ℕ) (g a c : List ℕ) (x : List ℕ × List ℕ) → endsInNewline a ≡ true → allWhole (includes v g a) ≡ true → middleText v full m g (a ++ c) ≡ accepted x → Middles full m g a c x
+  unfolding middleText includes
   included-split full m g a c x e k q =
       let f = includeStep v (insideFile v 6) g in
       let s = includes-sealed v g a e k in
@@ -52,7 +52,7 @@ module _ (v : View) where
     expanded-second : expanded v L n sheet c ≡ accepted second
     both : y ≡ (first ++ second .0, second .1)
 
-  expanded-split : (L n : ℕ) (s : Records) (a c : List ℕ) (y : List ℕ × Records) → endsInNewline a ≡ true → calm (expansion v s a) ≡ true → expanded v L n s (a ++ c) ≡ accepted y → Expansions L n s a c y
+  expanded-split : (L n : ℕ) (s : Records) (a c : List ℕ) (y : List ℕ × Records) → endsInNewline a ≡ true → allWhole (expansion v s a) ≡ true → expanded v L n s (a ++ c) ≡ accepted y → Expansions L n s a c y
   unfolding expanded
   expanded-split L n s a c y e k q =
       let p = limited-split sheetLength L 11 (expansion v s a) (λ z. expansion v z c) n (rw (expansion-append v s a c e k) at q) in
@@ -74,22 +74,22 @@ module _ (v : View) where
     pub passed-second : passed v L m n g sheet c ≡ accepted second
     pub both : y ≡ (first ++ second .0, second .1)
 
-  passed-intro : (L m n : ℕ) (g : List ℕ) (s : Records) (t : List ℕ) (x : List ℕ × List ℕ) {r : Answer (List ℕ × Records)} → included v 10 m g t ≡ accepted x → expanded v L n s (x .0) ≡ r → passed v L m n g s t ≡ r
+  passed-intro : (L m n : ℕ) (g : List ℕ) (s : Records) (t : List ℕ) (x : List ℕ × List ℕ) {r : Answer (List ℕ × Records)} → middleText v 10 m g t ≡ accepted x → expanded v L n s (x .0) ≡ r → passed v L m n g s t ≡ r
   unfolding passed
-  passed-intro L m n g s t x p q = bind-accepted (included v 10 m g t) _ p ∙ q
+  passed-intro L m n g s t x p q = bind-accepted (middleText v 10 m g t) _ p ∙ q
 
   pub passed-split : (L m n : ℕ) (g : List ℕ) (s : Records) (a c : List ℕ) (y : List ℕ × Records) → closed v g s a ≡ true → passed v L m n g s (a ++ c) ≡ accepted y → Passes L m n g s a c y
   unfolding passed closed
   passed-split L m n g s a c y k q =
       let t = includes v g a in
-      let k₁ : (endsInNewline a && calm t) ≡ true = and-l (endsInNewline a && calm t) _ k in
-      let e : endsInNewline a ≡ true = and-l (endsInNewline a) (calm t) k₁ in
-      let k₂ : calm t ≡ true = and-r (endsInNewline a) (calm t) k₁ in
-      let k₃ : calm (expansion v s (written t)) ≡ true = and-r (endsInNewline a && calm t) _ k in
-      let i = bind-inv (included v 10 m g (a ++ c)) _ q in
+      let k₁ : (endsInNewline a && allWhole t) ≡ true = and-l (endsInNewline a && allWhole t) _ k in
+      let e : endsInNewline a ≡ true = and-l (endsInNewline a) (allWhole t) k₁ in
+      let k₂ : allWhole t ≡ true = and-r (endsInNewline a) (allWhole t) k₁ in
+      let k₃ : allWhole (expansion v s (written t)) ≡ true = and-r (endsInNewline a && allWhole t) _ k in
+      let i = bind-inv (middleText v 10 m g (a ++ c)) _ q in
       let h = included-split 10 m g a c (i .0) e k₂ (i .1) in
       let n₁ : endsInNewline (h .first) ≡ true = ap endsInNewline (h .first-is) ∙ includes-sealed v g a e k₂ .0 in
-      let k₄ : calm (expansion v s (h .first)) ≡ true = ap (λ z. calm (expansion v s z)) (h .first-is) ∙ k₃ in
+      let k₄ : allWhole (expansion v s (h .first)) ≡ true = ap (λ z. allWhole (expansion v s z)) (h .first-is) ∙ k₃ in
       let x = expanded-split L n s (h .first) (h .second .0) y n₁ k₄ (ap (λ z. expanded v L n s (z .0)) (sym (h .both)) ∙ i .2) in
       record {
         first = x .first;

@@ -13,7 +13,7 @@ use Rattle.rules.specs.Bytes.{ascii, trim, join}
 use Rattle.rules.specs.Files.{View, fetch, opened}
 use Rattle.rules.specs.Sheet.{Value, dictionary, text, Records, set, valueLength}
 use Rattle.rules.specs.Includes.{commented, Quoted, unquoted, quoted, quote, Source, noParen, noPath, noLanguage, source, sourceArguments, toNewline, fenced, wrote, copied, copyByte, included, includeOf, includeMark, sourceText, sourceOf, sourceMark, includeStep, insideFile, includes}
-use Rattle.rules.specs.Expansion.{Call, back, refuse, says, Content, handedBack, denied, given, contentOf, readCall, content, Arguments, stalled, arguments, rawEnd, rawArguments, raw, linkBox, linkEnd, link, writes, binds, callDid, calling, callStep, importStep, letStep, referenceStep, copyStep, expansionStep, expansion}
+use Rattle.rules.specs.Expansion.{Call, handsBack, refuses, outputs, Content, handedBack, noContent, given, rawContent, readCall, content, Arguments, stalled, arguments, rawEnd, rawArguments, raw, linkBox, linkEnd, link, writes, binds, callDid, calling, callStep, importStep, letStep, referenceStep, copyStep, expansionStep, expansion}
 use Rattle.rules.specs.Definitions.{measured, textValue, value, grown, entryRound, dictionaryValue, Names, bound, letBound, definitionStep}
 use Rattle.rules.specs.Definitions
 use Rattle.rules.specs.Laws.Numbers.{numbered, numberedE, numberedT, numberedE-andThen, run-numbered, emitted-numbered, numbered-fetch, numbered-opened}
@@ -113,23 +113,23 @@ module _ (v : View) where
 
 -- EXPANSION.
 unfoldable callNumbered : Call → Bool
-callNumbered back = true
-callNumbered (refuse k) = isRefusal k
-callNumbered (says w o) = true
+callNumbered handsBack = true
+callNumbered (refuses k) = isRefusal k
+callNumbered (outputs w o) = true
 
 unfoldable contentNumbered : Content → Bool
 contentNumbered handedBack = true
-contentNumbered (denied k) = isRefusal k
+contentNumbered (noContent k) = isRefusal k
 contentNumbered (given o) = true
 
-content-numbered : (x : Answer (List ℕ)) → numbered x ≡ true → contentNumbered (contentOf x) ≡ true
-unfolding contentOf contentNumbered numbered
+content-numbered : (x : Answer (List ℕ)) → numbered x ≡ true → contentNumbered (rawContent x) ≡ true
+unfolding rawContent contentNumbered numbered
 content-numbered (refused k) h = h
 content-numbered (accepted o) h = refl
 
 module _ (v : View) (look : List ℕ → List ℕ) where
-  numbers-read : (p : List ℕ) → Yields contentNumbered (ret (contentOf (opened v p)))
-  numbers-read p = yields-ret contentNumbered (contentOf (opened v p)) (content-numbered (opened v p) (numbered-opened v p))
+  numbers-read : (p : List ℕ) → Yields contentNumbered (ret (rawContent (opened v p)))
+  numbers-read p = yields-ret contentNumbered (rawContent (opened v p)) (content-numbered (opened v p) (numbered-opened v p))
 
   numbers-given : (o : List ℕ) → Yields contentNumbered (ret (given o))
   unfolding contentNumbered
@@ -150,21 +150,21 @@ module _ (v : View) (look : List ℕ → List ℕ) where
 
   numbers-arguments : (c : Content) → contentNumbered c ≡ true → Yields callNumbered (rawArguments v look c)
   unfolding rawArguments callNumbered contentNumbered
-  numbers-arguments handedBack h = yields-ret callNumbered back refl
-  numbers-arguments (denied k) h = yields-ret callNumbered (refuse k) h
+  numbers-arguments handedBack h = yields-ret callNumbered handsBack refl
+  numbers-arguments (noContent k) h = yields-ret callNumbered (refuses k) h
   numbers-arguments (given o) h = yields-bind callNumbered _ (numbers-rawEnd o)
 
   numbers-raw : Yields callNumbered (raw v look)
   unfolding raw
   numbers-raw = yields-then callNumbered _ (yields-with callNumbered contentNumbered numbers-content numbers-arguments)
 
-  numbers-says : (w : Bool) (o : List ℕ) → Yields callNumbered (ret (says w o))
+  numbers-says : (w : Bool) (o : List ℕ) → Yields callNumbered (ret (outputs w o))
   unfolding callNumbered
-  numbers-says w o = yields-ret callNumbered (says w o) refl
+  numbers-says w o = yields-ret callNumbered (outputs w o) refl
 
-  numbers-back : Yields callNumbered (ret back)
+  numbers-back : Yields callNumbered (ret handsBack)
   unfolding callNumbered
-  numbers-back = yields-ret callNumbered back refl
+  numbers-back = yields-ret callNumbered handsBack refl
 
   numbers-link : Yields callNumbered (link look)
   unfolding link linkEnd linkBox
@@ -172,9 +172,9 @@ module _ (v : View) (look : List ℕ → List ℕ) where
 
 call-numbered : (s : Records) (shown : List ℕ) (c : Call) (u t : List ℕ) → callNumbered c ≡ true → didNumbered (callDid s shown c u t .0) ≡ true
 unfolding callDid callNumbered didNumbered numberedE
-call-numbered s shown back u t h = refl
-call-numbered s shown (refuse k) u t h = h
-call-numbered s shown (says w o) u t h = refl
+call-numbered s shown handsBack u t h = refl
+call-numbered s shown (refuses k) u t h = h
+call-numbered s shown (outputs w o) u t h = refl
 
 numbers-calling : (s : Records) (shown : List ℕ) {call : Reader Call} → Yields callNumbered call → Yields didNumbered (calling s shown call)
 unfolding calling _>>_

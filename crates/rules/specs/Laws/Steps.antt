@@ -9,7 +9,7 @@ use native.Mathlib.Omega.{arith}
 use lib.Dec.{eqb, eqb→eq}
 use lib.ListN.{length, length-append}
 use Rattle.rules.specs.Reader.{Reader, ret, ifR, _>>=_, _>>_, the, empty, span, sees, skip, mark}
-use Rattle.rules.specs.Run.{Emit, unrefused, Did, Step, Trace, fin, step, run, calm, endsInNewline}
+use Rattle.rules.specs.Run.{Emit, unrefused, Did, Step, Trace, fin, step, run, allWhole, endsInNewline}
 use Rattle.rules.specs.Laws.Bool.{and-l, and-r}
 use Rattle.rules.specs.Laws.Limit.{joinRuns}
 use Rattle.rules.specs.Laws.Read.{Some, newline-tail, Good, Line, good-ret, good-if, good-bind, good-then, good-skip, good-span, good-literal, line-sees, line-mark, inline}
@@ -60,9 +60,9 @@ module _ {S : Type 0} where
 
 -- A run over a ++ b.
 module _ {S : Type 0} (f : Step S) (local : (s : S) → Steps (f s)) where
-  pub run-append : (a b : List ℕ) (s : S) (k : ℕ) → k ≤ length a → endsInNewline a ≡ true → calm (run f s k a) ≡ true →
+  pub run-append : (a b : List ℕ) (s : S) (k : ℕ) → k ≤ length a → endsInNewline a ≡ true → allWhole (run f s k a) ≡ true →
       run f s k (a ++ b) ≡ joinRuns (run f s k a) (λ s′. run f s′ 0 b)
-  unfolding run joinRuns calm
+  unfolding run joinRuns allWhole
   run-append [] b s zero h e c = refl
   run-append [] b s (suc k) h e c = absurd (omega arith)
   run-append (x ∷ xs) b s (suc k) h e c = run-append xs b s k (omega arith) (newline-tail x xs e) c
@@ -70,7 +70,7 @@ module _ {S : Type 0} (f : Step S) (local : (s : S) → Steps (f s)) where
       let d = f s (x ∷ xs) .0 in
       let r = f s (x ∷ xs) .1 in
       let t = run f (d .state) (length xs - length r) xs in
-      let wo : (d .whole && unrefused (d .emit)) ≡ true = and-l _ (calm t) c in
+      let wo : (d .whole && unrefused (d .emit)) ≡ true = and-l _ (allWhole t) c in
       let w : d .whole ≡ true = and-l _ (unrefused (d .emit)) wo in
       let o : unrefused (d .emit) ≡ true = and-r (d .whole) _ wo in
       let k′ : length (xs ++ b) - length (r ++ b) ≡ length xs - length r = simp length-append (omega arith) in

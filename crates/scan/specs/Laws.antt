@@ -1,0 +1,126 @@
+-- Scanning at a place of a text.
+use mathlib.Core.Path.{_≡_, refl, sym, ap, _∙_}
+use mathlib.Core.List.{List, [], _∷_, _++_, append-assoc}
+use mathlib.Core.Bool.{Bool, true, false, true≢false, _&&_}
+use Prim.Native.Nat.{ℕ, zero, suc, _+_, _-_, _≤_, _<_}
+use native.Mathlib.Numerals.{add-one}
+use native.Mathlib.Nat.{add-zero, sub-zero, suc-sub-suc}
+use native.Mathlib.Omega.{arith}
+use lib.Dec.{eqb}
+use lib.ListN.{length, take, drop, getD, drop-of-length-le, length-drop}
+use lib.Seq.{drop-cons, drop-drop, take-all, take-suc}
+use borrow.Author.Tests.{eq-eqb, ne-eqb}
+use Rattle.rules.specs.Reader.{Reader, span, sees, skip, prefix, mark}
+use Rattle.scan.specs.Sets.{Spans, Sees, Starts, Skips}
+
+module _ (p : ℕ → Bool) (t : List ℕ) (i : ℕ) where
+  pub sees-at : i < length t → sees p (drop i t) ≡ (p (getD t i 0), drop i t)
+  unfolding sees
+  sees-at h = rw (drop-cons t i 0) refl
+
+  pub sees-is : {r : Bool} → i < length t → r ≡ p (getD t i 0) → Sees p t i r
+  sees-is h e = record { says = rw e (sees-at h); there = λ z. h }
+
+  pub sees-end : length t ≤ i → Sees p t i false
+  unfolding sees
+  sees-end h = record { says = rw (drop-of-length-le t h) refl; there = λ e. absurd (true≢false (sym e)) }
+
+pub skip-at : (t : List ℕ) (i : ℕ) → i < length t → skip (drop i t) .1 ≡ drop (i + 1) t
+unfolding skip
+skip-at t i h = rw (add-one, drop-cons t i 0) refl
+
+pub skips-at : (t : List ℕ) (i : ℕ) → i < length t → Skips t i (i + 1)
+skips-at t i h = record { on = omega arith; inside = omega arith; rest = skip-at t i h }
+
+pub skips-end : (t : List ℕ) (i : ℕ) → i ≤ length t → length t ≤ i → Skips t i i
+unfolding skip
+skips-end t i h k = record { on = omega arith; inside = h; rest = rw (drop-of-length-le t k) refl }
+
+-- what a span takes is behind it
+pub record Spanning (p : ℕ → Bool) (t : List ℕ) (at i : ℕ) : Type 0 where
+  pub on : at ≤ i
+  pub inside : i ≤ length t
+  pub took : span p (drop at t) .0 ≡ take (i - at) (drop at t) ++ span p (drop i t) .0
+  pub rest : span p (drop at t) .1 ≡ span p (drop i t) .1
+
+append-nil : (a : List ℕ) → a ++ [] ≡ a
+append-nil [] = refl
+append-nil (x ∷ xs) = ap (λ z. x ∷ z) (append-nil xs)
+
+getD-there : (t : List ℕ) (at i : ℕ) → at ≤ i → i < length t → take (suc i - at) (drop at t) ≡ take (i - at) (drop at t) ++ (getD t i 0 ∷ [])
+getD-there t zero i h k = rw (sub-zero, sub-zero) (take-suc t i 0 k)
+getD-there [] (suc at) i h k = absurd (omega arith)
+getD-there (x ∷ xs) (suc at) zero h k = absurd (omega arith)
+getD-there (x ∷ xs) (suc at) (suc i) h k = rw (suc-sub-suc, suc-sub-suc) (getD-there xs at i (omega arith) (omega arith))
+
+module _ (p : ℕ → Bool) (t : List ℕ) (at : ℕ) where
+  pub spanning-start : at ≤ length t → Spanning p t at at
+  spanning-start h = let z : at - at ≡ 0 = omega arith in record { on = omega arith; inside = h; took = rw z refl; rest = refl }
+
+  module _ (i : ℕ) (s : Spanning p t at i) where
+    pub spanning-on : i < length t → p (getD t i 0) ≡ true → Spanning p t at (i + 1)
+    unfolding span
+    spanning-on h e =
+        let k : span p (drop i t) ≡ (getD t i 0 ∷ span p (drop (suc i) t) .0, span p (drop (suc i) t) .1) = rw (drop-cons t i 0) (rw (e, span) refl) in
+        rw add-one (record {
+          on = omega (arith, s .on);
+          inside = h;
+          took = s .took ∙ rw (k, getD-there t at i (s .on) h, append-assoc) refl;
+          rest = s .rest ∙ rw k refl;
+        })
+
+    pub spanning-off : i < length t → p (getD t i 0) ≡ false → Spans p t at i
+    unfolding span
+    spanning-off h e =
+        let k : span p (drop i t) ≡ ([], drop i t) = rw (drop-cons t i 0) (rw (e, span) refl) in
+        record { on = s .on; inside = s .inside; took = s .took ∙ rw (k, append-nil) refl; rest = s .rest ∙ rw k refl }
+
+    pub spanning-end : length t ≤ i → Spans p t at i
+    unfolding span
+    spanning-end h =
+        let k : span p (drop i t) ≡ ([], drop i t) = rw (drop-of-length-le t h) refl in
+        record { on = s .on; inside = s .inside; took = s .took ∙ rw (k, append-nil) refl; rest = s .rest ∙ rw k refl }
+
+-- i bytes of the mark m stand at `at`
+pub record Matching (m t : List ℕ) (at i : ℕ) : Type 0 where
+  pub short : i ≤ length m
+  pub inside : at + i ≤ length t
+  pub same : prefix m (drop at t) ≡ prefix (drop i m) (drop (at + i) t)
+
+module _ (m t : List ℕ) (at : ℕ) where
+  pub matching-start : at ≤ length t → Matching m t at 0
+  matching-start h = record { short = omega arith; inside = omega arith; same = rw add-zero refl }
+
+  not-there : {P : Type 0} → false ≡ true → P
+  not-there e = absurd (true≢false (sym e))
+
+  module _ (i : ℕ) (s : Matching m t at i) where
+    pub matching-short : i < length m → length t ≤ at + i → Starts m t at false
+    unfolding prefix
+    matching-short h g = record { says = s .same ∙ rw (drop-cons m i 0, drop-of-length-le t g) refl; there = λ e. not-there e }
+
+    pub matching-no : i < length m → at + i < length t → (getD m i 0 ≡ getD t (at + i) 0 → ⊥) → Starts m t at false
+    unfolding prefix
+    matching-no h g n = record { says = s .same ∙ rw (drop-cons m i 0, drop-cons t (at + i) 0, ne-eqb _ _ n) refl; there = λ e. not-there e }
+
+    pub matching-on : i < length m → at + i < length t → getD m i 0 ≡ getD t (at + i) 0 → Matching m t at (i + 1)
+    unfolding prefix
+    matching-on h g e =
+        let k : at + (i + 1) ≡ suc (at + i) = omega arith in
+        record { short = omega arith; inside = omega arith; same = s .same ∙ rw (k, add-one, drop-cons m i 0, drop-cons t (at + i) 0, eq-eqb _ _ e) refl }
+
+    pub matching-end : length m ≤ i → Starts m t at true
+    unfolding prefix
+    matching-end h = record { says = s .same ∙ rw (drop-of-length-le m h) refl; there = λ e. omega (arith, s .inside, s .short) }
+
+-- a mark that stands at i, and one that does not
+mark-of : (m t : List ℕ) (r : Bool) → prefix m t ≡ r → mark m t ≡ elim r [ true ↦ (true, drop (length m) t) | false ↦ (false, t) ]
+unfolding mark
+mark-of m t r e = rw (e, mark) refl
+
+module _ {m t : List ℕ} {i : ℕ} {r : Bool} (s : Starts m t i r) where
+  pub mark-yes : r ≡ true → mark m (drop i t) ≡ (true, drop (i + length m) t)
+  mark-yes e = mark-of m (drop i t) true (s .says ∙ e) ∙ ap (λ z. (true, z)) (drop-drop (length m) i t)
+
+  pub mark-no : r ≡ false → mark m (drop i t) ≡ (false, drop i t)
+  mark-no e = mark-of m (drop i t) false (s .says ∙ e)

@@ -1,0 +1,65 @@
+-- The byte sets, and what the scanning functions promise.
+use mathlib.Core.Path.{_≡_}
+use mathlib.Core.List.{List, [], _∷_}
+use mathlib.Core.Bool.{Bool, true, false}
+use Prim.Native.Nat.{ℕ, _+_, _-_, _≤_, _<_}
+use lib.Dec.{eqb}
+use lib.ListN.{length, take, drop}
+use Rattle.rules.specs.Reader.{Reader, span, sees, skip, prefix, the, either, but}
+use Rattle.scan.specs.declared.Set.{Set}
+use Rattle.scan.specs.declared.Set.the-variants.{Blank, LineBlank, Letter, Word, Name, Run, CommaOrBlank, ColonOrBlank, EqualsOrLineBlank, EqualsOrBlank, UnderscoreOrLetter, Space, NotNewline, NotParen, NotBracket, NotQuote, NotDot, NotSlash, Ascii}
+use Rattle.rules.specs.Bytes.{ascii, blank, lineBlank, letter, word, nameByte, runByte}
+
+-- What each set holds.
+abbrev pub member : Set → ℕ → Bool
+member Blank = blank
+member LineBlank = lineBlank
+member Letter = letter
+member Word = word
+member Name = nameByte
+member Run = runByte
+member CommaOrBlank = either "," blank
+member ColonOrBlank = either ":" blank
+member EqualsOrLineBlank = either "=" lineBlank
+member EqualsOrBlank = either "=" blank
+member UnderscoreOrLetter = either "_" letter
+member Space = the " "
+member NotNewline = but "\n"
+member NotParen = but ")"
+member NotBracket = but "]"
+member NotQuote = but "\""
+member NotDot = but "."
+member NotSlash = but "/"
+member Ascii = ascii
+
+-- One name to unfold the classes by.
+unfoldable pub classes : ℕ
+unfolding ascii blank lineBlank letter Rattle.rules.specs.Bytes.digit word nameByte runByte the either but
+classes = 0
+
+-- The byte c; `the` says the same of a character.
+abbrev pub byteIs : ℕ → ℕ → Bool
+byteIs c x = eqb x c
+
+-- The stretch of t from i by p goes to j.
+pub record Spans (p : ℕ → Bool) (t : List ℕ) (i j : ℕ) : Type 0 where
+  pub on : i ≤ j
+  pub inside : j ≤ length t
+  pub took : span p (drop i t) .0 ≡ take (j - i) (drop i t)
+  pub rest : span p (drop i t) .1 ≡ drop j t
+
+-- r says whether there is a byte of p at i.
+pub record Sees (p : ℕ → Bool) (t : List ℕ) (i : ℕ) (r : Bool) : Type 0 where
+  pub says : sees p (drop i t) ≡ (r, drop i t)
+  pub there : r ≡ true → i < length t
+
+-- r says whether the mark stands at i.
+pub record Starts (m t : List ℕ) (i : ℕ) (r : Bool) : Type 0 where
+  pub says : prefix m (drop i t) ≡ r
+  pub there : r ≡ true → i + length m ≤ length t
+
+-- One byte on from i, or none at the end.
+pub record Skips (t : List ℕ) (i j : ℕ) : Type 0 where
+  pub on : i ≤ j
+  pub inside : j ≤ length t
+  pub rest : skip (drop i t) .1 ≡ drop j t

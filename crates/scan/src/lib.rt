@@ -1,0 +1,117 @@
+// Byte classes, stretches and marks (document 01, section 1). This is the only crate that looks at a byte's class.
+ghost use mathlib.Core.Path.{_≡_};
+ghost use Prim.Native.Nat.{_≤_};
+ghost use lib.ListN.{length};
+ghost use Rattle.scan.specs.Sets.{member, byteIs, Spans, Sees, Starts, Skips};
+
+// The sets of bytes that are scanned for; `member` of specs/Sets says what each holds.
+pub enum Set {
+    Blank,
+    LineBlank,
+    Letter,
+    Word,
+    Name,
+    Run,
+    CommaOrBlank,
+    ColonOrBlank,
+    EqualsOrLineBlank,
+    EqualsOrBlank,
+    UnderscoreOrLetter,
+    Space,
+    NotNewline,
+    NotParen,
+    NotBracket,
+    NotQuote,
+    NotDot,
+    NotSlash,
+    Ascii,
+}
+
+// Is the byte one of the set with this number?
+pub fn member(set: Set, x: u8) -> bool
+    ensures { λ r. ⌜ r ≡ member set x ⌝ }
+{
+    let blank = ((9 <= x) & (x <= 13)) | (x == 32);
+    let letter = ((65 <= x) & (x <= 90)) | ((97 <= x) & (x <= 122));
+    let word = letter | ((48 <= x) & (x <= 57)) | (x == 95);
+    match set {
+        Set::Blank => blank,
+        Set::LineBlank => blank & (x != 10),
+        Set::Letter => letter,
+        Set::Word => word,
+        Set::Name => word | (x == 45),
+        Set::Run => word | (x == 45) | (x == 46),
+        Set::CommaOrBlank => (x == 44) | blank,
+        Set::ColonOrBlank => (x == 58) | blank,
+        Set::EqualsOrLineBlank => (x == 61) | (blank & (x != 10)),
+        Set::EqualsOrBlank => (x == 61) | blank,
+        Set::UnderscoreOrLetter => (x == 95) | letter,
+        Set::Space => x == 32,
+        Set::NotNewline => x != 10,
+        Set::NotParen => x != 41,
+        Set::NotBracket => x != 93,
+        Set::NotQuote => x != 34,
+        Set::NotDot => x != 46,
+        Set::NotSlash => x != 47,
+        Set::Ascii => x < 128,
+    }
+}
+
+// The end of the longest stretch of bytes of the set from a place on.
+pub fn span(text: &[u8], at: usize, set: Set) -> usize
+    requires { ⌜ at ≤ length (now text) ⌝ }
+    ensures { λ r. ⌜ Spans (member set) (now (text .entry)) at r ⌝ }
+{
+    let mut i = at;
+    while i < text.len() {
+        if !member(set, text[i]) {
+            return i;
+        }
+        i += 1;
+    }
+    i
+}
+
+// Is there a byte of the set at a place?
+pub fn sees(text: &[u8], at: usize, set: Set) -> bool
+    ensures { λ r. ⌜ Sees (member set) (now (text .entry)) at r ⌝ }
+{
+    if at < text.len() {
+        member(set, text[at])
+    } else {
+        false
+    }
+}
+
+// Does this byte stand at a place?
+pub fn at(text: &[u8], i: usize, c: u8) -> bool
+    ensures { λ r. ⌜ Sees (byteIs c) (now (text .entry)) i r ⌝ }
+{
+    if i < text.len() { text[i] == c } else { false }
+}
+
+// Does the mark stand at a place?
+pub fn starts_with(text: &[u8], at: usize, mark: &[u8]) -> bool
+    requires { ⌜ at ≤ length (now text) ⌝ }
+    ensures { λ r. ⌜ Starts (now (mark .entry)) (now (text .entry)) at r ⌝ }
+{
+    let mut i: usize = 0;
+    while i < mark.len() {
+        if text.len() - at <= i {
+            return false;
+        }
+        if mark[i] != text[at + i] {
+            return false;
+        }
+        i += 1;
+    }
+    true
+}
+
+// One byte on, or none at the end.
+pub fn skip(text: &[u8], at: usize) -> usize
+    requires { ⌜ at ≤ length (now text) ⌝ }
+    ensures { λ r. ⌜ Skips (now (text .entry)) at r ⌝ }
+{
+    if at < text.len() { at + 1 } else { at }
+}
