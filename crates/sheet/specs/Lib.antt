@@ -1,0 +1,6 @@
+pub mod Parts
+pub mod Heads
+pub mod Items
+pub mod Order
+pub mod Find
+pub mod Look
