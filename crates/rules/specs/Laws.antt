@@ -6,6 +6,7 @@ pub mod Read
 pub mod Steps
 pub mod Expansion
 pub mod Includes
+pub mod Enough
 pub mod Texts
 pub mod Keep
 pub mod Middle

@@ -1,8 +1,11 @@
 -- What the reading and writing functions promise.
 use mathlib.Core.Path.{_≡_}
-use mathlib.Core.List.{List}
+use mathlib.Core.List.{List, _++_}
+use mathlib.Core.Bool.{Bool, true, false}
 use Prim.Native.Nat.{ℕ, _≤_}
 use lib.ListN.{length, drop}
+use Rattle.rules.specs.Reader.{stop}
+use Rattle.rules.specs.Strings.{plus, expressionRound}
 use Rattle.buffers.specs.Put.{Put}
 
 -- v: what a reader made of t, and its rest. k bytes are read, and the text is put at p.
@@ -10,3 +13,12 @@ pub record Wrote (room : ℕ) (v : List ℕ × List ℕ) (t b : List ℕ) (p : �
   pub inside : k ≤ length t
   pub rest : v .1 ≡ drop k t
   pub put : Put room b p (v .0) c q
+
+-- A round of an expression up to its `+`. Found: a text is put and reading goes on at j; else the round stops at j.
+pub record IsTerm (look : List ℕ → List ℕ) (room : ℕ) (found : Bool) (t : List ℕ) (i : ℕ) (b : List ℕ) (p : ℕ) (c : List ℕ) (j q : ℕ) : Type 0 where
+  pub on : i ≤ j
+  pub inside : j ≤ length t
+  pub text : List ℕ
+  pub put : Put room b p text c q
+  pub goes : found ≡ true → (a : List ℕ) → expressionRound look a (drop i t) ≡ plus look (a ++ text) (drop j t)
+  pub stops : found ≡ false → (a : List ℕ) → expressionRound look a (drop i t) ≡ (stop (a ++ text), drop j t)

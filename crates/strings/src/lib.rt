@@ -3,9 +3,12 @@
 ghost use mathlib.Core.Path.{_≡_};
 ghost use Prim.Native.Nat.{_≤_};
 ghost use lib.ListN.{length};
-ghost use Rattle.rules.specs.Strings.{escape, literal};
+ghost use Rattle.rules.specs.Bytes.{underscored};
+ghost use Rattle.rules.specs.Sheet.{resolveString};
+ghost use Rattle.rules.specs.Strings.{escape, literal, expression};
+ghost use Rattle.sheet.specs.Find.{IsSheet};
 ghost use Rattle.buffers.specs.Put.{Writer, Put};
-ghost use Rattle.strings.specs.Read.{Wrote};
+ghost use Rattle.strings.specs.Read.{Wrote, IsTerm};
 
 // How many bytes were read, and where the writer goes on.
 pub struct Read {
@@ -58,5 +61,63 @@ pub fn literal(text: &[u8], out: &mut [u8], room: usize, p: usize) -> Read
         }
         q = escape(out, room, q, text[j + 1]);
         i = j + 2;
+    }
+}
+
+// Puts the text that a run stands for: each `-` made `_`, then looked up.
+pub fn reference(sheet: &[u8], run: &[u8], out: &mut [u8], room: usize, p: usize) -> usize
+    requires { ⌜ Writer room p × IsSheet (now sheet) ⌝ }
+    ensures { λ r. ⌜ ((s : IsSheet (now (sheet .entry))) → Put room (now (out .entry)) p (resolveString (s .r) (underscored (now (run .entry)))) (now (out .exit)) r) ⌝ }
+{
+    let found = sheet::lookup::lookup(sheet, run, true);
+    if let sheet::lookup::Found::Text { from, to } = found {
+        return buffers::put(out, room, p, &sheet[from..to]);
+    }
+    p
+}
+
+// What a round of an expression comes to: is there a term, where reading goes on, where the writer goes on.
+pub struct Term {
+    pub found: bool,
+    pub at: usize,
+    pub next: usize,
+}
+
+// Reads a round of an expression from a place up to its `+`, and puts its text.
+fn term(text: &[u8], at: usize, sheet: &[u8], out: &mut [u8], room: usize, p: usize) -> Term
+    requires { ⌜ (at ≤ length (now text)) × Writer room p × (length (now out) ≤ room) × IsSheet (now sheet) ⌝ }
+    ensures { λ r. ⌜ ((s : IsSheet (now (sheet .entry))) → IsTerm (resolveString (s .r)) room (r .found) (now (text .entry)) at (now (out .entry)) p (now (out .exit)) (r .at) (r .next)) ⌝ }
+{
+    let i = scan::span(text, at, scan::Set::LineBlank);
+    if scan::at(text, i, b'"') {
+        let s = literal(&text[i + 1..], out, room, p);
+        return Term { found: true, at: i + 1 + s.used, next: s.next };
+    }
+    if scan::sees(text, i, scan::Set::UnderscoreOrLetter) {
+        let e = scan::span(text, i, scan::Set::Run);
+        let q = reference(sheet, &text[i..e], out, room, p);
+        return Term { found: true, at: e, next: q };
+    }
+    Term { found: false, at: i, next: p }
+}
+
+// Reads an expression, and puts its text.
+pub fn expression(text: &[u8], sheet: &[u8], out: &mut [u8], room: usize, p: usize) -> Read
+    requires { ⌜ Writer room p × (length (now out) ≤ room) × IsSheet (now sheet) ⌝ }
+    ensures { λ r. ⌜ ((s : IsSheet (now (sheet .entry))) → Wrote room (expression (resolveString (s .r)) (now (text .entry))) (now (text .entry)) (now (out .entry)) p (now (out .exit)) (r .used) (r .next)) ⌝ }
+{
+    let mut i: usize = 0;
+    let mut q = p;
+    loop {
+        let t = term(text, i, sheet, out, room, q);
+        q = t.next;
+        if !t.found {
+            return Read { used: t.at, next: q };
+        }
+        i = scan::span(text, t.at, scan::Set::LineBlank);
+        if !scan::at(text, i, b'+') {
+            return Read { used: i, next: q };
+        }
+        i += 1;
     }
 }
