@@ -2,6 +2,7 @@
 use mathlib.Core.Path.{_≡_, refl, sym, ap, _∙_}
 use mathlib.Core.List.{List, [], _∷_, _++_, append-assoc}
 use mathlib.Core.Bool.{Bool, true, false, not, _&&_, true≢false}
+use mathlib.Core.Option.{Option}
 use Prim.Native.Char.{Char, code}
 use Prim.Native.Nat.{ℕ, zero, suc, _+_, _-_, _≤_, _<_}
 use native.Mathlib.Omega.{arith}
@@ -11,13 +12,21 @@ use lib.Dec.{eqb, ltb}
 use lib.ListN.{length, take, drop, getD, length-drop, drop-of-length-le}
 use lib.Seq.{drop-cons, drop-drop, take-all}
 use borrow.Author.Tests.{eq-eqb, ne-eqb}
-use Rattle.rules.specs.Reader.{the, but, span}
-use Rattle.rules.specs.Strings.{escape, onto, literalFrom, literal}
+use Rattle.rules.specs.Reader.{Reader, ret, ifR, _>>=_, _>>_, the, but, either, span, sees, skip, rounds, Turn, again, stop}
+use Rattle.rules.specs.Bytes.{word, lineBlank, letter, runByte, underscored}
+use Rattle.rules.specs.Strings.{escape, onto, literalFrom, literal, reference, plus, expressionRound, expression}
+use Rattle.rules.specs.Laws.Enough.{rounds-again, rounds-stop, expression-moving}
 use Rattle.rules.specs.Laws.Bool.{and-l, and-r, and-i, true-eqb}
-use Rattle.scan.specs.Sets.{plainByte, Spans}
+use Rattle.rules.specs.Sheet.{Value, Records, encode, goodRecords, resolve, resolveString, textOf}
+use Rattle.sheet.specs.declared.lookup.Found.{Found}
+use Rattle.sheet.specs.declared.lookup.Found.the-variants.{Text}
+use Rattle.sheet.specs.Parts.{Part, part-slice}
+use Rattle.sheet.specs.Order.{asked}
+use Rattle.sheet.specs.Find.{IsSheet, Gives, foundText, gives-string}
+use Rattle.scan.specs.Sets.{plainByte, byteIs, Spans, Sees}
 use Rattle.buffers.specs.Put.{Put, Writer}
 use Rattle.buffers.specs.Laws.{put-none, put-then, put-writer, put-length}
-use Rattle.strings.specs.Read.{Wrote}
+use Rattle.strings.specs.Read.{Wrote, IsTerm}
 
 -- A part of a text that goes to its end.
 pub tail-part : (t : List ℕ) (k : ℕ) → take (length t - k) (drop k t) ≡ drop k t
@@ -143,3 +152,141 @@ module _ {room : ℕ} {t b : List ℕ} {p : ℕ} (w : Writer room p) (l : length
         put = put-then (behind .put) l (w .place) (rw add-one at z);
         left = rw add-two (behind .left ∙ ap (onto (behind .text)) (slash h x ∙ g) ∙ onto-onto (behind .text) _ _);
       }
+
+-- REFERENCES. What a lookup found, as a text.
+pub record Places (s : List ℕ) (x : Option Value) (a b : ℕ) : Type 0 where
+  pub on : a ≤ b
+  pub inside : b ≤ length s
+  pub text : take (b - a) (drop a s) ≡ textOf x
+
+pub text-places : {s : List ℕ} {x : Option Value} {f : Found} {a b : ℕ} → Gives s x f → f ≡ Text a b → Places s x a b
+unfolding Gives textOf
+text-places {s} {x} g e =
+    let h = rw e at g in
+    record { on = omega (arith, h .2 .ends); inside = h .2 .inside; text = part-slice (h .2) ∙ sym (ap textOf (h .1)) }
+
+pub no-text : (s : List ℕ) (x : Option Value) (f : Found) {g : Found} → Gives s x f → f ≡ g → foundText s g ≡ [] → textOf x ≡ []
+no-text s x f {g} h e k = sym (gives-string s x f h) ∙ ap (foundText s) e ∙ k
+
+module _ (s run : List ℕ) (f : Found) (told : (r : Records) → s ≡ encode r → goodRecords r word 6 ≡ true → Gives s (resolve r (asked true run)) f) where
+  -- What it gives for the sheet's records.
+  pub gives-run : (i : IsSheet s) → Gives s (resolve (i .r) (underscored run)) f
+  unfolding asked
+  gives-run i = told (i .r) (i .bytes) (i .good)
+
+  pub reference-text : {room p : ℕ} {b c : List ℕ} {q x y : ℕ} → f ≡ Text x y → Put room b p (take (y - x) (drop x s)) c q → (i : IsSheet s) → Put room b p (resolveString (i .r) (underscored run)) c q
+  unfolding resolveString
+  reference-text {room} {p} {b} {c} {q} e u i = rw (text-places (gives-run i) e .text) at u
+
+  pub reference-none : {room p : ℕ} {b : List ℕ} {g : Found} → f ≡ g → foundText s g ≡ [] → (i : IsSheet s) → Put room b p (resolveString (i .r) (underscored run)) b p
+  unfolding resolveString
+  reference-none {room} {p} {b} e k i = rw (no-text s _ f (gives-run i) e k) (put-none room b p)
+
+-- EXPRESSIONS. Reading one byte over.
+skip-at : (t : List ℕ) (i : ℕ) → i < length t → skip (drop i t) .1 ≡ drop (i + 1) t
+unfolding skip
+skip-at t i h = rw (add-one, drop-cons t i 0) refl
+
+pub seen : {p : ℕ → Bool} {t : List ℕ} {i : ℕ} {r v : Bool} → Sees p t i r → r ≡ v → Sees p t i v
+seen s e = rw e at s
+
+-- What the scan of a byte says of the character.
+pub sees-char : (c : Char) {t : List ℕ} {i : ℕ} {r : Bool} → Sees (byteIs (code c)) t i r → Sees (the c) t i r
+unfolding the
+sees-char c s = s
+
+-- A round of an expression, by what the scans said.
+module _ (look : List ℕ → List ℕ) (t : List ℕ) (i j : ℕ) (l : Spans lineBlank t i j) where
+  round-literal : (k : ℕ) (a : List ℕ) → Sees (the "\"") t j true → literal (drop (j + 1) t) .1 ≡ drop k t → expressionRound look a (drop i t) ≡ plus look (a ++ literal (drop (j + 1) t) .0) (drop k t)
+  unfolding expressionRound _>>=_ _>>_ ifR
+  round-literal k a q e = rw (l .rest, q .says, skip-at t j (q .there refl), e) refl
+
+  round-reference : (k : ℕ) (a : List ℕ) → Sees (the "\"") t j false → Sees (either "_" letter) t j true → Spans runByte t j k →
+      expressionRound look a (drop i t) ≡ plus look (a ++ look (underscored (take (k - j) (drop j t)))) (drop k t)
+  unfolding expressionRound reference _>>=_ _>>_ ifR ret
+  round-reference k a q n r = rw (l .rest, q .says, n .says, r .took, r .rest) refl
+
+  round-stop : (a : List ℕ) → Sees (the "\"") t j false → Sees (either "_" letter) t j false → expressionRound look a (drop i t) ≡ (stop a, drop j t)
+  unfolding expressionRound _>>=_ _>>_ ifR ret
+  round-stop a q n = rw (l .rest, q .says, n .says) refl
+
+  plus-again : (a : List ℕ) → Sees (the "+") t j true → plus look a (drop i t) ≡ (again a, drop (j + 1) t)
+  unfolding plus _>>=_ _>>_ ifR ret
+  plus-again a q = rw (l .rest, q .says, skip-at t j (q .there refl)) refl
+
+  plus-stop : (a : List ℕ) → Sees (the "+") t j false → plus look a (drop i t) ≡ (stop a, drop j t)
+  unfolding plus _>>=_ _>>_ ifR ret
+  plus-stop a q = rw (l .rest, q .says) refl
+
+-- The ways through a round.
+module _ (look : List ℕ → List ℕ) {room : ℕ} {t : List ℕ} {i j : ℕ} (l : Spans lineBlank t i j) {f : Bool} (q : Sees (the "\"") t j f) {b : List ℕ} {p : ℕ} where
+  pub term-literal : {c : List ℕ} {k r : ℕ} → f ≡ true → Wrote room (literal (take (length t - (j + 1)) (drop (j + 1) t))) (take (length t - (j + 1)) (drop (j + 1) t)) b p c k r → IsTerm look room true t i b p c (j + 1 + k) r
+  term-literal {c} {k} {r} e w =
+      let h : j < length t = q .there e in
+      let v : Wrote room (literal (drop (j + 1) t)) (drop (j + 1) t) b p c k r = rw tail-part at w in
+      let z : literal (drop (j + 1) t) .1 ≡ drop (j + 1 + k) t = v .rest ∙ drop-drop k (j + 1) t in
+      record {
+        on = omega (arith, l .on);
+        inside = omega (arith, simp length-drop at (v .inside));
+        text = literal (drop (j + 1) t) .0;
+        put = v .put;
+        goes = λ u a. round-literal look t i j l (j + 1 + k) a (seen q e) z;
+        stops = λ u a. absurd (true≢false u);
+      }
+
+  module _ {g : Bool} (e : f ≡ false) (n : Sees (either "_" letter) t j g) where
+    pub term-reference : {c : List ℕ} {k r : ℕ} → g ≡ true → Spans runByte t j k → Put room b p (look (underscored (take (k - j) (drop j t)))) c r → IsTerm look room true t i b p c k r
+    term-reference {c} {k} {r} d m u = record {
+      on = omega (arith, l .on, m .on);
+      inside = m .inside;
+      text = look (underscored (take (k - j) (drop j t)));
+      put = u;
+      goes = λ v a. round-reference look t i j l k a (seen q e) (seen n d) m;
+      stops = λ v a. absurd (true≢false v);
+    }
+
+    pub term-stop : g ≡ false → IsTerm look room false t i b p b j p
+    term-stop d = record {
+      on = l .on;
+      inside = l .inside;
+      text = [];
+      put = put-none room b p;
+      goes = λ v a. absurd (true≢false (sym v));
+      stops = λ v a. rw append-nil (round-stop look t i j l a (seen q e) (seen n d));
+    }
+
+-- An expression is read up to i.
+pub record ExpressionAt (look : List ℕ → List ℕ) (room : ℕ) (t b : List ℕ) (p : ℕ) (c : List ℕ) (q i : ℕ) : Type 0 where
+  pub inside : i ≤ length t
+  pub text : List ℕ
+  pub put : Put room b p text c q
+  pub left : expression look t ≡ rounds (expressionRound look) (λ a. a) text (drop i t)
+
+pub expression-start : (look : List ℕ → List ℕ) (room : ℕ) (t b : List ℕ) (p : ℕ) → ExpressionAt look room t b p b p 0
+unfolding expression
+expression-start look room t b p = record { inside = omega arith; text = []; put = put-none room b p; left = refl }
+
+module _ {look : List ℕ → List ℕ} {room : ℕ} {t b : List ℕ} {p : ℕ} (w : Writer room p) (l : length b ≤ room) {c : List ℕ} {q i : ℕ} (x : ExpressionAt look room t b p c q i) where
+  expression-done : {k : ℕ} {d : List ℕ} {r : ℕ} (v : List ℕ) → k ≤ length t → Put room c q v d r → expressionRound look (x .text) (drop i t) ≡ (stop (x .text ++ v), drop k t) → Wrote room (expression look t) t b p d k r
+  expression-done v h u e =
+      let z = x .left ∙ rounds-stop (expressionRound look) (λ a. a) (expression-moving look) (x .text) _ (drop i t) (ap (λ y. y .0) e) ∙ ap (λ y. (x .text ++ v, y .1)) e in
+      record { inside = h; rest = ap (λ y. y .1) z; put = rw z (put-then (x .put) l (w .place) u) }
+
+  module _ {f : Bool} {d : List ℕ} {j r : ℕ} (m : IsTerm look room f t i c q d j r) where
+    pub expression-none : f ≡ false → Wrote room (expression look t) t b p d j r
+    expression-none e = expression-done (m .text) (m .inside) (m .put) (m .stops e (x .text))
+
+    module _ {k : ℕ} (e : f ≡ true) (n : Spans lineBlank t j k) where
+      pub expression-last : Sees (the "+") t k false → Wrote room (expression look t) t b p d k r
+      expression-last o = expression-done (m .text) (n .inside) (m .put) (m .goes e (x .text) ∙ plus-stop look t j k n _ o)
+
+      pub expression-again : Sees (the "+") t k true → ExpressionAt look room t b p d r (k + 1)
+      expression-again o =
+          let g = m .goes e (x .text) ∙ plus-again look t j k n _ o in
+          let z = rounds-again (expressionRound look) (λ a. a) (expression-moving look) (x .text) _ (drop i t) (ap (λ y. y .0) g) in
+          record {
+            inside = omega (arith, o .there refl);
+            text = x .text ++ m .text;
+            put = put-then (x .put) l (w .place) (m .put);
+            left = x .left ∙ z ∙ ap (λ y. rounds (expressionRound look) (λ a. a) (x .text ++ m .text) (y .1)) g;
+          }

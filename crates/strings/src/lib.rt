@@ -70,35 +70,53 @@ pub fn reference(sheet: &[u8], run: &[u8], out: &mut [u8], room: usize, p: usize
     ensures { λ r. ⌜ ((s : IsSheet (now (sheet .entry))) → Put room (now (out .entry)) p (resolveString (s .r) (underscored (now (run .entry)))) (now (out .exit)) r) ⌝ }
 {
     let found = sheet::lookup::lookup(sheet, run, true);
-    if let sheet::lookup::Found::Text { from, to } = found {
-        return buffers::put(out, room, p, &sheet[from..to]);
+    match found {
+        sheet::lookup::Found::Text { from, to } => buffers::put(out, room, p, &sheet[from..to]),
+        sheet::lookup::Found::Missing => p,
+        sheet::lookup::Found::None => p,
+        sheet::lookup::Found::Dictionary {
+            from: _,
+            to: _,
+            count: _,
+        } => p,
     }
-    p
 }
 
 // What a round of an expression comes to: is there a term, where reading goes on, where the writer goes on.
-pub struct Term {
+pub struct Round {
     pub found: bool,
     pub at: usize,
     pub next: usize,
 }
 
 // Reads a round of an expression from a place up to its `+`, and puts its text.
-fn term(text: &[u8], at: usize, sheet: &[u8], out: &mut [u8], room: usize, p: usize) -> Term
+fn term(text: &[u8], at: usize, sheet: &[u8], out: &mut [u8], room: usize, p: usize) -> Round
     requires { ⌜ (at ≤ length (now text)) × Writer room p × (length (now out) ≤ room) × IsSheet (now sheet) ⌝ }
     ensures { λ r. ⌜ ((s : IsSheet (now (sheet .entry))) → IsTerm (resolveString (s .r)) room (r .found) (now (text .entry)) at (now (out .entry)) p (now (out .exit)) (r .at) (r .next)) ⌝ }
 {
     let i = scan::span(text, at, scan::Set::LineBlank);
     if scan::at(text, i, b'"') {
         let s = literal(&text[i + 1..], out, room, p);
-        return Term { found: true, at: i + 1 + s.used, next: s.next };
+        return Round {
+            found: true,
+            at: i + 1 + s.used,
+            next: s.next,
+        };
     }
     if scan::sees(text, i, scan::Set::UnderscoreOrLetter) {
         let e = scan::span(text, i, scan::Set::Run);
         let q = reference(sheet, &text[i..e], out, room, p);
-        return Term { found: true, at: e, next: q };
+        return Round {
+            found: true,
+            at: e,
+            next: q,
+        };
     }
-    Term { found: false, at: i, next: p }
+    Round {
+        found: false,
+        at: i,
+        next: p,
+    }
 }
 
 // Reads an expression, and puts its text.
@@ -112,7 +130,10 @@ pub fn expression(text: &[u8], sheet: &[u8], out: &mut [u8], room: usize, p: usi
         let t = term(text, i, sheet, out, room, q);
         q = t.next;
         if !t.found {
-            return Read { used: t.at, next: q };
+            return Read {
+                used: t.at,
+                next: q,
+            };
         }
         i = scan::span(text, t.at, scan::Set::LineBlank);
         if !scan::at(text, i, b'+') {
