@@ -4,3 +4,4 @@ pub mod Items
 pub mod Order
 pub mod Find
 pub mod Look
+pub mod Check
