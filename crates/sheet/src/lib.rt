@@ -2,3 +2,4 @@
 pub mod head;
 pub mod lookup;
 pub mod check;
+pub mod bind;
