@@ -21,6 +21,9 @@ drop-take (suc f) (suc t) [] h = rw suc-sub-suc (go (t - f))
     go (suc k) = refl
 drop-take (suc f) (suc t) (x ∷ s) h = rw suc-sub-suc (drop-take f t s (omega arith))
 
+pub slice-take : (a b n : ℕ) (s : List ℕ) → a ≤ b → b ≤ n → slice a b (take n s) ≡ slice a b s
+slice-take a b n s h k = sym (drop-take a b (take n s) h) ∙ ap (drop a) (take-take b n s k) ∙ drop-take a b s h
+
 -- Stores leave what lies before them and behind them.
 take-sets : (t i : ℕ) (y l : List ℕ) → t ≤ i → take t (sets l i y) ≡ take t l
 take-sets t i [] l h = refl

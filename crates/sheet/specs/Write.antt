@@ -18,7 +18,7 @@ use Rattle.rules.specs.Bytes.{less}
 use Rattle.rules.specs.Laws.Bool.{or-elim, or-false-l, or-false-r}
 use Rattle.rules.specs.Sheet.{Value, text, nothing, dictionary, Records, end, rec, encode, count, word16Bytes, fieldBytes, fieldBit, valueBytes, valueBit, set}
 use Rattle.sheet.specs.Parts.{Part, slice, part-slice, length-slice, append-nil}
-use Rattle.sheet.specs.Moves.{drop-take, sets-before, take-stored}
+use Rattle.sheet.specs.Moves.{drop-take, slice-take, sets-before, take-stored}
 use Rattle.sheet.specs.Items.{count-le}
 use Rattle.sheet.specs.Order.{made, asked, asked-length, asked-getD}
 use Rattle.sheet.specs.Find.{Gives}
@@ -314,7 +314,7 @@ module _ (b : List ℕ) (at : ℕ) (f : Bool) (t : List ℕ) {bit : ℕ} (g : Is
       q ∙ ap (λ z. sets c z (word16Bytes size)) l ∙ ap (λ z. sets z (at + length x) (word16Bytes size)) begun ∙ sets-append b at x (word16Bytes size) ∙ rw (is-numbered g h) refl
 
 -- What a lookup found.
-text-empty : (t : List ℕ) → length t ≡ 0 → IsSource (text t) 0 0 t
+pub text-empty : (t : List ℕ) → length t ≡ 0 → IsSource (text t) 0 0 t
 unfolding valueBit valueBytes fieldBit fieldBytes number numbered
 text-empty [] h = record { sort = refl; bytes = refl; small = omega arith }
 text-empty (x ∷ xs) h = absurd (omega arith)
@@ -323,11 +323,6 @@ pub text-full : (t : List ℕ) → (length t ≡ 0 → ⊥) → IsSource (text t
 unfolding valueBit valueBytes fieldBit fieldBytes number numbered
 text-full [] h = absurd (h refl)
 text-full (x ∷ xs) h = record { sort = refl; bytes = refl; small = omega arith }
-
-pub source-empty : (t : List ℕ) → length t ≡ 0 → IsSource (text t) 0 (length t) t
-unfolding valueBit valueBytes fieldBit fieldBytes number numbered
-source-empty [] h = record { sort = refl; bytes = refl; small = omega arith }
-source-empty (x ∷ xs) h = absurd (omega arith)
 
 pub none-source : IsSource nothing 8 0 []
 unfolding valueBit valueBytes number numbered
@@ -380,32 +375,36 @@ pub open-wide : (n bit : ℕ) → 1 + wide n ≤ openLen n bit
 unfolding openLen
 open-wide n bit = omega arith
 
+-- The numbers of a place that fits.
+pub record Bounds (n l long bit len : ℕ) (p : Room) : Type 0 where
+  pub on : p .from ≤ p .to
+  pub inside : p .to ≤ n
+  pub small : openLen long bit ≤ long + 5
+  pub sum : p .from + p .head + len + (n - p .to) ≤ l
+  pub head : p .head ≡ openLen long bit
+  pub short : long ≤ l
+  pub own : len ≤ l
+
 -- THE END: the opening, the value's own bytes and the tail stand where they should.
-module _ {b : List ℕ} {n l : ℕ} (g : Bindable b n l) {name : List ℕ} {bit len size : ℕ} {p : Room} (f : Fitting (take n b) l name bit len p) where
+module _ {b : List ℕ} {n l : ℕ} (g : Bindable b n l) {name : List ℕ} {bit len : ℕ} {p : Room} (f : Fitting (take n b) l name bit len p) where
   sheet-long : length (take n b) ≡ n
   sheet-long = length-take-le n b (g .inside)
 
   spotted : Placed (take n b) (g .sheet .r) name (p .from) (p .to)
   spotted = f .placed (g .sheet .r) (g .sheet .bytes)
 
-  -- The numbers.
-  pub record Bounds : Type 0 where
-    pub on : p .from ≤ p .to
-    pub inside : p .to ≤ n
-    pub small : openLen (length name) bit ≤ length name + 5
-    pub sum : p .from + p .head + len + (n - p .to) ≤ l
-    pub head : p .head ≡ openLen (length name) bit
-
-  pub bounds : Bounds
+  pub bounds : Bounds n l (length name) bit len p
   bounds = record {
     on = spotted .on;
     inside = omega (arith, spotted .inside, sheet-long);
     small = open-le (length name) bit;
     sum = omega (arith, f .total, f .fits, sheet-long);
     head = f .head;
+    short = f .short;
+    own = f .small;
   }
 
-  module _ (own : List ℕ) (k : length own ≡ len) where
+  module _ (size : ℕ) (own : List ℕ) (k : length own ≡ len) where
     total-is : p .from + length (opening name bit size ++ (own ++ slice (p .to) n b)) ≡ p .total
     total-is =
         let z = length-slice (p .to) n b (g .inside) in
@@ -439,6 +438,43 @@ module _ {b : List ℕ} {n l : ℕ} (g : Bindable b n l) {name : List ℕ} {bit 
         let i : d ≡ sets b (p .from + p .head) (own ++ slice (p .to) n b) = y ∙ ap (λ w. sets w (p .from + p .head) own) (x ∙ ap (λ w. sets b (p .from + p .head + w) (slice (p .to) n b)) (sym k)) ∙ sets-before own (slice (p .to) n b) b (p .from + p .head) in
         bound-found i z
 
-pub bound-over : {b : List ℕ} {n l : ℕ} {name : List ℕ} {bit len size : ℕ} {own : List ℕ} → Plans (take n b) l name bit len TooLong → length own ≡ len → (v : Value) → IsSource v bit size own → BindsTo b n l name v b Over
-unfolding Plans Leaves
-bound-over f k v w = record { long = refl; leaves = λ r q. f r v _ _ q w k }
+-- By what `find_room` answers.
+module _ {b : List ℕ} {n l : ℕ} (g : Bindable b n l) (t : Bool) (name : List ℕ) (bit len : ℕ) {q : Plan} (f : Plans (take n b) l (asked t name) bit len q) where
+  pub bound-over : q ≡ TooLong → {size : ℕ} {own : List ℕ} → length own ≡ len → (v : Value) → IsSource v bit size own → BindsTo b n l (asked t name) v b Over
+  unfolding Plans Leaves
+  bound-over e k v w =
+      let z : Plans (take n b) l (asked t name) bit len TooLong = rw e at f in
+      record { long = refl; leaves = λ r h. z r v _ _ h w k }
+
+  module _ {p : Room} (e : q ≡ Fits p) where
+    fit : Fitting (take n b) l (asked t name) bit len p
+    unfolding Plans
+    fit = rw e at f
+
+    pub fit-bounds : Bounds n l (length name) bit len p
+    fit-bounds = rw (asked-length t name) at (bounds g fit)
+
+    pub opens-there : {c : List ℕ} {size : ℕ} → length c ≡ length b → {v : Value} {own : List ℕ} → IsSource v bit size own → length own ≡ len → Opens c (p .from) (length name) bit size
+    opens-there h {v} w k =
+        let o = fit-bounds in
+        record {
+          sort = record { v = v; is = w .sort };
+          short = omega (arith, o .short, g .small);
+          small = omega (arith, w .small, o .own, g .small);
+          room = omega (arith, o .sum, o .head, g .room);
+        }
+
+    pub bound-value : (size : ℕ) (own : List ℕ) → length own ≡ len → (v : Value) → IsSource v bit size own → {c d x : List ℕ} →
+        c ≡ sets b (p .from + p .head + len) (slice (p .to) n b) → d ≡ sets c (p .from + p .head) own → x ≡ sets d (p .from) (opening (asked t name) bit size) → BindsTo b n l (asked t name) v x (Length (p .total))
+    bound-value size own k v w {x = x} i j h = bound-in g fit size own k v w x (bound-slice g fit size own k i j h)
+
+    -- The value's own bytes lie from `from` to `to` of the sheet.
+    pub bound-there : (size a c : ℕ) → a ≤ c → c ≤ n → c - a ≡ len → (v : Value) → IsSource v bit size (slice a c (take n b)) → {d x : List ℕ} →
+        d ≡ sets b (p .from + p .head) (slice a c b ++ slice (p .to) n b) → x ≡ sets d (p .from) (opening (asked t name) bit size) → BindsTo b n l (asked t name) v x (Length (p .total))
+    bound-there size a c o i k v w {x = x} y h =
+        let s : slice a c (take n b) ≡ slice a c b = slice-take a c n b o i in
+        let m : length (slice a c (take n b)) ≡ len = length-slice a c (take n b) (omega (arith, length-take-le n b (g .inside))) ∙ k in
+        bound-in g fit size (slice a c (take n b)) m v w x (bound-found g fit size (slice a c (take n b)) m (y ∙ ap (λ z. sets b (p .from + p .head) (z ++ slice (p .to) n b)) (sym s)) h)
+
+pub source-length : {b : List ℕ} {n l : ℕ} → Bindable b n l → {v : Value} {o : Source} → Sources (take n b) v o → (o .to ≤ n) × (length (slice (o .from) (o .to) (take n b)) ≡ o .to - o .from)
+source-length {b} {n} g {o = o} s = (omega (arith, s .inside, length-take-le n b (g .inside)), length-slice (o .from) (o .to) (take n b) (s .inside))

@@ -242,8 +242,10 @@ pub fn bind_text(buf: &mut [u8], n: usize, limit: usize, name: &[u8], reference:
     requires { ⌜ Bindable (now buf) n limit ⌝ }
     ensures { λ o. ⌜ BindsTo (now (buf .entry)) n limit (asked reference (now (name .entry))) (text (now (content .entry))) (now (buf .exit)) o ⌝ }
 {
-    let bit = if content.len() == 0 { 0 } else { TEXT };
-    bind_value(buf, n, limit, name, reference, bit, content.len(), content)
+    if content.len() == 0 {
+        return bind_value(buf, n, limit, name, reference, 0, 0, content);
+    }
+    bind_value(buf, n, limit, name, reference, TEXT, content.len(), content)
 }
 
 // Binds a name to none.
