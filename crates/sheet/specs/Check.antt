@@ -116,15 +116,15 @@ regroup : (a t f g b : Bool) → (((a && t) && f) && (g && b)) ≡ ((((a && b) &
 regroup a t f g b =
     bool-eq _ _
     (λ h.
-      let x = and-l ((a && t) && f) (g && b) h in
-      let y = and-r ((a && t) && f) (g && b) h in
-      let z = and-l (a && t) f x in
-      and-i (((a && b) && t) && g) f (and-i ((a && b) && t) g (and-i (a && b) t (and-i a b (and-l a t z) (and-r g b y)) (and-r a t z)) (and-l g b y)) (and-r (a && t) f x))
+    let x = and-l ((a && t) && f) (g && b) h in
+    let y = and-r ((a && t) && f) (g && b) h in
+    let z = and-l (a && t) f x in
+    and-i (((a && b) && t) && g) f (and-i ((a && b) && t) g (and-i (a && b) t (and-i a b (and-l a t z) (and-r g b y)) (and-r a t z)) (and-l g b y)) (and-r (a && t) f x))
     (λ h.
-      let x = and-l (((a && b) && t) && g) f h in
-      let y = and-l ((a && b) && t) g x in
-      let z = and-l (a && b) t y in
-      and-i ((a && t) && f) (g && b) (and-i (a && t) f (and-i a t (and-l a b z) (and-r (a && b) t y)) (and-r (((a && b) && t) && g) f h)) (and-i g b (and-r ((a && b) && t) g x) (and-r a b z)))
+    let x = and-l (((a && b) && t) && g) f h in
+    let y = and-l ((a && b) && t) g x in
+    let z = and-l (a && b) t y in
+    and-i ((a && t) && f) (g && b) (and-i (a && t) f (and-i a t (and-l a b z) (and-r (a && b) t y)) (and-r (((a && b) && t) && g) f h)) (and-i g b (and-r ((a && b) && t) g x) (and-r a b z)))
 
 module _ {A B : Type 0} where
   guard-then : (b c : Bool) (a : A) (x : B) → bind (guard b a) (λ y. guard c x) ≡ guard (b && c) x

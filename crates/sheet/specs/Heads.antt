@@ -317,13 +317,20 @@ module _ (s : List ℕ) (m from to : ℕ) (g : goodMap m ≡ true) where
   pub value-text : {k : ℕ} → (bitAnd m 2 ≡ 0 → ⊥) → IsField s to k → (k ≡ 0 → ⊥) →
       ValueReads s m from to (Record (record { from = from; to = to; kind = 2; at = to + 2; next = to + 2 + k; count = 0 }))
   unfolding ValueReads shapeKind shapeText shapeCount bind
-  value-text {k} h f z =
-      (refl, refl,
-      record {
-        v = plain (slice (to + 2) (to + 2 + k) s);
-        is = shape-text (m / 2) (drop to s) (is-text m g h) ∙ rw (f .is z) refl;
-        behind = omega arith; on = omega arith; inside = f .inside z; sort = refl; text = refl; number = refl;
-      })
+  value-text {k} h f z = (
+    refl,
+    refl,
+    record {
+      v = plain (slice (to + 2) (to + 2 + k) s);
+      is = shape-text (m / 2) (drop to s) (is-text m g h) ∙ rw (f .is z) refl;
+      behind = omega arith;
+      on = omega arith;
+      inside = f .inside z;
+      sort = refl;
+      text = refl;
+      number = refl;
+    },
+  )
 
   pub value-no-text : {k : ℕ} → (bitAnd m 2 ≡ 0 → ⊥) → IsField s to k → k ≡ 0 → ValueReads s m from to Bad
   unfolding ValueReads bind
@@ -332,13 +339,20 @@ module _ (s : List ℕ) (m from to : ℕ) (g : goodMap m ≡ true) where
   pub value-dictionary : {n : ℕ} → (bitAnd m 4 ≡ 0 → ⊥) → to + 2 ≤ length s → n ≡ wordAt s to →
       ValueReads s m from to (Record (record { from = from; to = to; kind = 3; at = to + 2; next = to + 2; count = n }))
   unfolding ValueReads shapeKind shapeText shapeCount bind
-  value-dictionary {n} h l e =
-      (refl, refl,
-      record {
-        v = holding n;
-        is = shape-dictionary (m / 2) (drop to s) (is-dictionary m g h) ∙ rw (word-read s to l, e) refl;
-        behind = omega arith; on = omega arith; inside = l; sort = refl; text = slice-none (to + 2) s; number = refl;
-      })
+  value-dictionary {n} h l e = (
+    refl,
+    refl,
+    record {
+      v = holding n;
+      is = shape-dictionary (m / 2) (drop to s) (is-dictionary m g h) ∙ rw (word-read s to l, e) refl;
+      behind = omega arith;
+      on = omega arith;
+      inside = l;
+      sort = refl;
+      text = slice-none (to + 2) s;
+      number = refl;
+    },
+  )
 
   pub value-no-count : (bitAnd m 4 ≡ 0 → ⊥) → length s - to < 2 → ValueReads s m from to Bad
   unfolding ValueReads bind
@@ -347,23 +361,37 @@ module _ (s : List ℕ) (m from to : ℕ) (g : goodMap m ≡ true) where
   module _ (l : to ≤ length s) where
     pub value-nothing : (bitAnd m 8 ≡ 0 → ⊥) → ValueReads s m from to (Record (record { from = from; to = to; kind = 1; at = to; next = to; count = 0 }))
     unfolding ValueReads shapeKind shapeText shapeCount
-    value-nothing h =
-        (refl, refl,
-        record {
-          v = absent;
-          is = shape-nothing (m / 2) (drop to s) (is-nothing m g h);
-          behind = omega arith; on = omega arith; inside = l; sort = refl; text = slice-none to s; number = refl;
-        })
+    value-nothing h = (
+      refl,
+      refl,
+      record {
+        v = absent;
+        is = shape-nothing (m / 2) (drop to s) (is-nothing m g h);
+        behind = omega arith;
+        on = omega arith;
+        inside = l;
+        sort = refl;
+        text = slice-none to s;
+        number = refl;
+      },
+    )
 
     pub value-empty : bitAnd m 2 ≡ 0 → bitAnd m 4 ≡ 0 → bitAnd m 8 ≡ 0 → ValueReads s m from to (Record (record { from = from; to = to; kind = 2; at = to; next = to; count = 0 }))
     unfolding ValueReads shapeKind shapeText shapeCount
-    value-empty h i j =
-        (refl, refl,
-        record {
-          v = plain [];
-          is = shape-empty (m / 2) (drop to s) (is-empty m g h i j);
-          behind = omega arith; on = omega arith; inside = l; sort = refl; text = slice-none to s; number = refl;
-        })
+    value-empty h i j = (
+      refl,
+      refl,
+      record {
+        v = plain [];
+        is = shape-empty (m / 2) (drop to s) (is-empty m g h i j);
+        behind = omega arith;
+        on = omega arith;
+        inside = l;
+        sort = refl;
+        text = slice-none to s;
+        number = refl;
+      },
+    )
 
 -- THE RECORD.
 pub reads-end : (s : List ℕ) (i : ℕ) → length s ≤ i → Reads s i Bad
@@ -400,8 +428,14 @@ module _ (s : List ℕ) (i : ℕ) (l : i < length s) where
       record {
         v = w .v;
         is = opened ∙ rw n (rw (w .is, e .0, e .1) refl);
-        past = omega (arith, e .0); name = omega (arith, e .0, e .1); behind = omega (arith, e .1, w .behind);
-        on = w .on; inside = w .inside; sort = w .sort; text = w .text; number = w .number;
+        past = omega (arith, e .0);
+        name = omega (arith, e .0, e .1);
+        behind = omega (arith, e .1, w .behind);
+        on = w .on;
+        inside = w .inside;
+        sort = w .sort;
+        text = w .text;
+        number = w .number;
       }
 
   pub reads-plain : (h : Head) → bitAnd (getD s i 0) 1 ≡ 0 → ValueReads s (getD s i 0) (i + 1) (i + 1) h → Reads s i h

@@ -53,7 +53,8 @@ module _ {t : List ℕ} {p i : ℕ} (d : Dotless t p i) where
   unfolding all but
   dotless-on h e =
       record {
-        on = omega (arith, d .on); inside = omega arith;
+        on = omega (arith, d .on);
+        inside = omega arith;
         none = rw (slice-more p i t (d .on) h) (all-append (but ".") (slice p i t) (getD t i 0 ∷ []) (d .none) (rw (ne-eqb (getD t i 0) 46 e) refl));
       }
 

@@ -23,9 +23,10 @@ pub record Part (s : List ℕ) (i : ℕ) (x : List ℕ) (j : ℕ) : Type 0 where
 pub part-split : (s : List ℕ) (i : ℕ) (x y : List ℕ) (j : ℕ) → Part s i (x ++ y) j → Part s i x (i + length x) × Part s (i + length x) y j
 part-split s i x y j p =
     let e : drop (i + length x) s ≡ y ++ drop j s = sym (drop-drop (length x) i s) ∙ ap (drop (length x)) (p .bytes ∙ append-assoc x y (drop j s)) ∙ drop-append-seam x (y ++ drop j s) in
-    let l : i + (length x + length y) ≡ j = ap (λ z. i + z) (sym (length-append x y)) ∙ p .ends in
-    (record { ends = refl; inside = omega (arith, p .inside); bytes = p .bytes ∙ append-assoc x y (drop j s) ∙ ap (λ z. x ++ z) (sym e) },
-     record { ends = omega arith; inside = p .inside; bytes = e })
+    let l : i + (length x + length y) ≡ j = ap (λ z. i + z) (sym (length-append x y)) ∙ p .ends in (
+      record { ends = refl; inside = omega (arith, p .inside); bytes = p .bytes ∙ append-assoc x y (drop j s) ∙ ap (λ z. x ++ z) (sym e) },
+      record { ends = omega arith; inside = p .inside; bytes = e },
+    )
 
 pub part-cast : (s : List ℕ) (x : List ℕ) {i j k l : ℕ} → i ≡ k → j ≡ l → Part s i x j → Part s k x l
 part-cast s x p q h = rw (p, q) at h

@@ -101,16 +101,22 @@ module _ {s : List ℕ} {r : Records} {name : List ℕ} {i : ℕ} (k : Standing 
   pub place-below : c ≡ 2 → Placed s r name i i
   place-below e =
       let l : less name (k .m) ≡ true = order-less (k .m) name .1 ∙ ap (λ z. eqb z 2) (order-is ∙ e) in
-      record { on = omega arith; inside = omega (arith, k .part .ends);
-        is = λ v. k .is v ∙ ap (λ z. take i s ++ z) (ap encode (set-below name (k .m) v (k .w) (k .q) l) ∙ one-rec name v (rec (k .m) (k .w) (k .q)) ∙ ap (λ z. one name v ++ z) (sym (part-drop (k .part)))) }
+      record {
+        on = omega arith;
+        inside = omega (arith, k .part .ends);
+        is = λ v. k .is v ∙ ap (λ z. take i s ++ z) (ap encode (set-below name (k .m) v (k .w) (k .q) l) ∙ one-rec name v (rec (k .m) (k .w) (k .q)) ∙ ap (λ z. one name v ++ z) (sym (part-drop (k .part))));
+      }
 
   module _ {e : ℕ} (t : Part s e (encode (k .q)) (length s)) (o : i ≤ e) where
     pub place-same : c ≡ 1 → Placed s r name i e
     place-same g =
         let l : less name (k .m) ≡ false = order-less (k .m) name .1 ∙ ap (λ z. eqb z 2) (order-is ∙ g) in
         let m : less (k .m) name ≡ false = order-less (k .m) name .0 ∙ ap (λ z. eqb z 0) (order-is ∙ g) in
-        record { on = o; inside = omega (arith, t .ends);
-          is = λ v. k .is v ∙ ap (λ z. take i s ++ z) (ap encode (set-same name (k .m) v (k .w) (k .q) l m) ∙ one-rec name v (k .q) ∙ ap (λ z. one name v ++ z) (sym (part-drop t))) }
+        record {
+          on = o;
+          inside = omega (arith, t .ends);
+          is = λ v. k .is v ∙ ap (λ z. take i s ++ z) (ap encode (set-same name (k .m) v (k .w) (k .q) l m) ∙ one-rec name v (k .q) ∙ ap (λ z. one name v ++ z) (sym (part-drop t)));
+        }
 
     passed : take e s ≡ take i s ++ one (k .m) (k .w)
     passed =
@@ -124,5 +130,8 @@ module _ {s : List ℕ} {r : Records} {name : List ℕ} {i : ℕ} (k : Standing 
         let z : c ≡ 0 = zero-of c g₁ g₂ (omega (arith, h, order-three (slice a b s) name)) in
         let l : less name (k .m) ≡ false = order-less (k .m) name .1 ∙ ap (λ z. eqb z 2) (order-is ∙ z) in
         let m : less (k .m) name ≡ true = order-less (k .m) name .0 ∙ ap (λ z. eqb z 0) (order-is ∙ z) in
-        record { left = k .q; part = t;
-          is = λ v. k .is v ∙ ap (λ z. take i s ++ z) (ap encode (set-past name (k .m) v (k .w) (k .q) l m) ∙ one-rec (k .m) (k .w) (set (k .q) name v)) ∙ rw passed (simp append-assoc) }
+        record {
+          left = k .q;
+          part = t;
+          is = λ v. k .is v ∙ ap (λ z. take i s ++ z) (ap encode (set-past name (k .m) v (k .w) (k .q) l m) ∙ one-rec (k .m) (k .w) (set (k .q) name v)) ∙ rw passed (simp append-assoc);
+        }

@@ -416,13 +416,14 @@ module _ {b : List ℕ} {n l : ℕ} (g : Bindable b n l) {name : List ℕ} {bit 
         record {
           long = ap length e ∙ length-sets b (p .from) (opening name bit size ++ (own ++ slice (p .to) n b));
           leaves = λ r q.
-            let d = f .placed r q in
-            let t : drop (p .to) (take n b) ≡ slice (p .to) n b = drop-take (p .to) n b (omega (arith, d .inside, sheet-long)) in
-            let u : take (p .from) (take n b) ≡ take (p .from) b = take-take (p .from) n b (omega (arith, d .on, d .inside, sheet-long)) in
-            let x : encode (set r name v) ≡ take (p .from) b ++ (opening name bit size ++ (own ++ slice (p .to) n b)) = d .is v ∙ rw (u, t, one-opening name v bit size own w, append-assoc) refl in
-            (f .fits,
-            omega (arith, set-length d v w, f .total, f .head, k),
-            ap (take (p .total)) e ∙ take-stored b (opening name bit size ++ (own ++ slice (p .to) n b)) (p .from) (p .total) total-is (omega (arith, f .fits, g .room)) ∙ sym x);
+              let d = f .placed r q in
+              let t : drop (p .to) (take n b) ≡ slice (p .to) n b = drop-take (p .to) n b (omega (arith, d .inside, sheet-long)) in
+              let u : take (p .from) (take n b) ≡ take (p .from) b = take-take (p .from) n b (omega (arith, d .on, d .inside, sheet-long)) in
+              let x : encode (set r name v) ≡ take (p .from) b ++ (opening name bit size ++ (own ++ slice (p .to) n b)) = d .is v ∙ rw (u, t, one-opening name v bit size own w, append-assoc) refl in (
+                f .fits,
+                omega (arith, set-length d v w, f .total, f .head, k),
+                ap (take (p .total)) e ∙ take-stored b (opening name bit size ++ (own ++ slice (p .to) n b)) (p .from) (p .total) total-is (omega (arith, f .fits, g .room)) ∙ sym x,
+              );
         }
 
     pub bound-found : {d e : List ℕ} → d ≡ sets b (p .from + p .head) (own ++ slice (p .to) n b) → e ≡ sets d (p .from) (opening name bit size) →

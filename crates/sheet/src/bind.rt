@@ -1,7 +1,13 @@
 // Binding a name inside a lent buffer whose first bytes are the sheet.
-use crate::head::{DICTIONARY, NAME, NONE, TEXT};
-use crate::lookup::{Found, item, made, order, skip};
-
+use crate::head::DICTIONARY;
+use crate::head::NAME;
+use crate::head::NONE;
+use crate::head::TEXT;
+use crate::lookup::Found;
+use crate::lookup::item;
+use crate::lookup::made;
+use crate::lookup::order;
+use crate::lookup::skip;
 ghost use mathlib.Core.Path.{_≡_};
 ghost use mathlib.Core.List.{List, [], _++_};
 ghost use mathlib.Core.Option.{some};
@@ -101,7 +107,12 @@ fn find_room(s: &[u8], limit: usize, name: &[u8], reference: bool, bit: u8, len:
     if limit < total {
         return Plan::Over;
     }
-    Plan::Fits(Room { from: p.from, to: p.to, head: head, total: total })
+    Plan::Fits(Room {
+        from: p.from,
+        to: p.to,
+        head: head,
+        total: total,
+    })
 }
 
 // Moves the bytes from a place up to another to a third.
@@ -194,7 +205,6 @@ fn put_opening(buf: &mut [u8], at: usize, name: &[u8], reference: bool, bit: u8,
     put_field(buf, at + 1, name, reference);
     if bit & (TEXT | DICTIONARY) != 0 {
         put_number(buf, at + 1 + sized(name.len()), size);
-        return;
     }
 }
 
@@ -211,20 +221,54 @@ fn source_of(value: Found) -> Source
     ensures { λ o. ⌜ ((s : List ℕ) (v : Value) → Gives s (some v) value → Sources s v o) ⌝ }
 {
     match value {
-        Found::Missing => Source { bit: NONE, from: 0, to: 0, size: 0 },
-        Found::None => Source { bit: NONE, from: 0, to: 0, size: 0 },
+        Found::Missing => Source {
+            bit: NONE,
+            from: 0,
+            to: 0,
+            size: 0,
+        },
+        Found::None => Source {
+            bit: NONE,
+            from: 0,
+            to: 0,
+            size: 0,
+        },
         Found::Text { from, to } => {
             if to <= from {
-                return Source { bit: 0, from: from, to: to, size: 0 };
+                return Source {
+                    bit: 0,
+                    from: from,
+                    to: to,
+                    size: 0,
+                };
             }
-            Source { bit: TEXT, from: from, to: to, size: to - from }
+            Source {
+                bit: TEXT,
+                from: from,
+                to: to,
+                size: to - from,
+            }
         }
-        Found::Dictionary { from, to, count } => Source { bit: DICTIONARY, from: from, to: to, size: count },
+        Found::Dictionary { from, to, count } => Source {
+            bit: DICTIONARY,
+            from: from,
+            to: to,
+            size: count,
+        },
     }
 }
 
 // Binds a name to a value with this bit, this number and these bytes of its own.
-fn bind_value(buf: &mut [u8], n: usize, limit: usize, name: &[u8], reference: bool, bit: u8, size: usize, own: &[u8]) -> Bound
+fn bind_value(
+    buf: &mut [u8],
+    n: usize,
+    limit: usize,
+    name: &[u8],
+    reference: bool,
+    bit: u8,
+    size: usize,
+    own: &[u8],
+) -> Bound
     requires { ⌜ Bindable (now buf) n limit × HasSource bit size (now own) ⌝ }
     ensures { λ o. ⌜ Binds (now (buf .entry)) n limit (asked reference (now (name .entry))) bit size (now (own .entry)) (now (buf .exit)) o ⌝ }
 {
@@ -238,7 +282,14 @@ fn bind_value(buf: &mut [u8], n: usize, limit: usize, name: &[u8], reference: bo
 }
 
 // Binds a name to a text.
-pub fn bind_text(buf: &mut [u8], n: usize, limit: usize, name: &[u8], reference: bool, content: &[u8]) -> Bound
+pub fn bind_text(
+    buf: &mut [u8],
+    n: usize,
+    limit: usize,
+    name: &[u8],
+    reference: bool,
+    content: &[u8],
+) -> Bound
     requires { ⌜ Bindable (now buf) n limit ⌝ }
     ensures { λ o. ⌜ BindsTo (now (buf .entry)) n limit (asked reference (now (name .entry))) (text (now (content .entry))) (now (buf .exit)) o ⌝ }
 {
@@ -257,18 +308,42 @@ pub fn bind_none(buf: &mut [u8], n: usize, limit: usize, name: &[u8], reference:
 }
 
 // Binds a name to a value that a lookup found in another sheet.
-pub fn bind_from(buf: &mut [u8], n: usize, limit: usize, name: &[u8], reference: bool, other: &[u8], value: Found) -> Bound
+pub fn bind_from(
+    buf: &mut [u8],
+    n: usize,
+    limit: usize,
+    name: &[u8],
+    reference: bool,
+    other: &[u8],
+    value: Found,
+) -> Bound
     requires { ⌜ Bindable (now buf) n limit × IsThere (now other) value ⌝ }
     ensures { λ o. ⌜ ((v : Value) → Gives (now (other .entry)) (some v) value → BindsTo (now (buf .entry)) n limit (asked reference (now (name .entry))) v (now (buf .exit)) o) ⌝ }
 {
     let o = source_of(value);
     let from = o.from;
     let to = o.to;
-    bind_value(buf, n, limit, name, reference, o.bit, o.size, &other[from..to])
+    bind_value(
+        buf,
+        n,
+        limit,
+        name,
+        reference,
+        o.bit,
+        o.size,
+        &other[from..to],
+    )
 }
 
 // Binds a name to a value that a lookup found in this sheet.
-pub fn bind_found(buf: &mut [u8], n: usize, limit: usize, name: &[u8], reference: bool, value: Found) -> Bound
+pub fn bind_found(
+    buf: &mut [u8],
+    n: usize,
+    limit: usize,
+    name: &[u8],
+    reference: bool,
+    value: Found,
+) -> Bound
     requires { ⌜ Bindable (now buf) n limit × IsThere (take n (now buf)) value ⌝ }
     ensures { λ o. ⌜ ((v : Value) → Gives (take n (now (buf .entry))) (some v) value → BindsTo (now (buf .entry)) n limit (asked reference (now (name .entry))) v (now (buf .exit)) o) ⌝ }
 {

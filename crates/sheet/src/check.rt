@@ -1,8 +1,11 @@
 // The layout check (refusal 3): every rule of section 2, each byte looked at a few times.
-use crate::head::{Head, Item, read, BINDING, ENTRY};
+use crate::head::BINDING;
+use crate::head::ENTRY;
+use crate::head::Head;
+use crate::head::Item;
+use crate::head::read;
 use crate::lookup::order;
 use scan::Set;
-
 ghost use mathlib.Core.Path.{_≡_};
 ghost use Prim.Native.Nat.{_≤_};
 ghost use lib.ListN.{length, drop};
@@ -81,7 +84,11 @@ fn inside(s: &[u8], kind: u8, at: usize, count: usize, levels: usize) -> Ends
     }
     let mut i = at;
     let mut left = count;
-    let mut last = Last { known: false, from: 0, to: 0 };
+    let mut last = Last {
+        known: false,
+        from: 0,
+        to: 0,
+    };
     while 0 < left {
         let Head::Record(o) = entry(s, i, ENTRY, Set::Name, last) else {
             return Ends::Bad;
@@ -89,7 +96,11 @@ fn inside(s: &[u8], kind: u8, at: usize, count: usize, levels: usize) -> Ends
         let Ends::At(e) = inside(s, o.kind, o.next, o.count, levels - 1) else {
             return Ends::Bad;
         };
-        last = Last { known: true, from: o.from, to: o.to };
+        last = Last {
+            known: true,
+            from: o.from,
+            to: o.to,
+        };
         i = e;
         left -= 1;
     }
@@ -104,7 +115,11 @@ pub fn check(s: &[u8]) -> bool
         return false;
     }
     let mut i: usize = 0;
-    let mut last = Last { known: false, from: 0, to: 0 };
+    let mut last = Last {
+        known: false,
+        from: 0,
+        to: 0,
+    };
     while i < s.len() {
         let Head::Record(o) = entry(s, i, BINDING, Set::Word, last) else {
             return false;
@@ -112,7 +127,11 @@ pub fn check(s: &[u8]) -> bool
         let Ends::At(e) = inside(s, o.kind, o.next, o.count, 6) else {
             return false;
         };
-        last = Last { known: true, from: o.from, to: o.to };
+        last = Last {
+            known: true,
+            from: o.from,
+            to: o.to,
+        };
         i = e;
     }
     true

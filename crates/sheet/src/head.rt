@@ -77,16 +77,37 @@ fn value_head(s: &[u8], m: u8, from: usize, to: usize) -> Head
         if k == 0 {
             return Head::Bad;
         }
-        return Head::Record(Item { from: from, to: to, kind: 2, at: to + 2, next: to + 2 + k, count: 0 });
+        return Head::Record(Item {
+            from: from,
+            to: to,
+            kind: 2,
+            at: to + 2,
+            next: to + 2 + k,
+            count: 0,
+        });
     }
     if m & DICTIONARY != 0 {
         if s.len() - to < 2 {
             return Head::Bad;
         }
-        return Head::Record(Item { from: from, to: to, kind: 3, at: to + 2, next: to + 2, count: word(s, to) });
+        return Head::Record(Item {
+            from: from,
+            to: to,
+            kind: 3,
+            at: to + 2,
+            next: to + 2,
+            count: word(s, to),
+        });
     }
     let kind = if m & NONE != 0 { 1 } else { 2 };
-    Head::Record(Item { from: from, to: to, kind: kind, at: to, next: to, count: 0 })
+    Head::Record(Item {
+        from: from,
+        to: to,
+        kind: kind,
+        at: to,
+        next: to,
+        count: 0,
+    })
 }
 
 // Reads the record at a place.

@@ -1,6 +1,9 @@
 // Lookup: a walk over the records of a level, then into a dictionary.
-use crate::head::{Head, Item, read, BINDING, ENTRY};
-
+use crate::head::BINDING;
+use crate::head::ENTRY;
+use crate::head::Head;
+use crate::head::Item;
+use crate::head::read;
 ghost use mathlib.Core.Path.{_≡_};
 ghost use mathlib.Core.Bool.{true};
 ghost use mathlib.Core.List.{List};
@@ -19,8 +22,15 @@ ghost use Rattle.sheet.specs.Look.{UpToDot};
 pub enum Found {
     Missing,
     None,
-    Text { from: usize, to: usize },
-    Dictionary { from: usize, to: usize, count: usize },
+    Text {
+        from: usize,
+        to: usize,
+    },
+    Dictionary {
+        from: usize,
+        to: usize,
+        count: usize,
+    },
 }
 
 // The record at a place where there is one.
@@ -29,7 +39,14 @@ pub fn item(s: &[u8], i: usize) -> Item
     ensures { λ o. ⌜ ((n : List ℕ) (v : Value) (r : Records) (j : ℕ) → Part (now (s .entry)) i (encode (rec n v r)) j → Told (now (s .entry)) i n v r j o) ⌝ }
 {
     let Head::Record(o) = read(s, i, BINDING | ENTRY) else {
-        return Item { from: i, to: i, kind: 0, at: i, next: i, count: 0 };
+        return Item {
+            from: i,
+            to: i,
+            kind: 0,
+            at: i,
+            next: i,
+            count: 0,
+        };
     };
     o
 }
@@ -95,9 +112,16 @@ fn value(s: &[u8], o: Item) -> Found
     }
     if o.kind == 3 {
         let end = skip(s, o.next, o.count);
-        return Found::Dictionary { from: o.next, to: end, count: o.count };
+        return Found::Dictionary {
+            from: o.next,
+            to: end,
+            count: o.count,
+        };
     }
-    Found::Text { from: o.at, to: o.next }
+    Found::Text {
+        from: o.at,
+        to: o.next,
+    }
 }
 
 // Looks a name up among the records from a place to another; the order of names ends the walk.

@@ -44,8 +44,8 @@ same-length c = search needs
 returns : tie.Need-returns
 returns c =
     λ v g.
-      let s = c .before .before .before .before .before .source-of .ensures _ v g in
-      bound-over (c .before .before .before .before .before .before .before .before .pre .0) _ _ _ _ (c .before .before .find-room .ensures) (c .enum-told .given .1) (source-length (c .before .before .before .before .before .before .before .before .pre .0) s .1) v (s .is)
+    let s = c .before .before .before .before .before .source-of .ensures _ v g in
+    bound-over (c .before .before .before .before .before .before .before .before .pre .0) _ _ _ _ (c .before .before .find-room .ensures) (c .enum-told .given .1) (source-length (c .before .before .before .before .before .before .before .before .pre .0) s .1) v (s .is)
 
 add-arrange : tie.Need-add-arrange
 add-arrange c =
@@ -69,8 +69,8 @@ same-length-2 c = search needs
 returns-2 : tie.Need-returns-2
 returns-2 c =
     λ v g.
-      let s = c .before .before .before .before .before .before .before .before .before .before .before .before .before .before .before .source-of .ensures _ v g in
-      bound-there (c .before .before .before .before .before .before .before .before .before .before .before .before .before .before .before .before .before .before .pre .0) _ _ _ _ (c .before .before .before .before .before .before .before .before .before .before .before .before .find-room .ensures) (c .before .before .before .before .before .before .before .before .before .before .p .given .1) _ _ _ (s .on) (source-length (c .before .before .before .before .before .before .before .before .before .before .before .before .before .before .before .before .before .before .pre .0) s .0) refl v (s .is) (c .before .before .before .before .before .before .arrange .ensures) (c .before .before .put-opening .ensures)
+    let s = c .before .before .before .before .before .before .before .before .before .before .before .before .before .before .before .source-of .ensures _ v g in
+    bound-there (c .before .before .before .before .before .before .before .before .before .before .before .before .before .before .before .before .before .before .pre .0) _ _ _ _ (c .before .before .before .before .before .before .before .before .before .before .before .before .find-room .ensures) (c .before .before .before .before .before .before .before .before .before .before .p .given .1) _ _ _ (s .on) (source-length (c .before .before .before .before .before .before .before .before .before .before .before .before .before .before .before .before .before .before .pre .0) s .0) refl v (s .is) (c .before .before .before .before .before .before .arrange .ensures) (c .before .before .put-opening .ensures)
 
 pub bind-found-spec : {M : Type 1} → statement M
 bind-found-spec =

@@ -56,17 +56,17 @@ order-requires c κs = search needs
 returns : tie.Need-returns Inv-loop μ-loop
 returns c =
     λ r p.
-      let k = standing (c .before .before .before .before .before .before .loop .inv r p) (search needs) in
-      let d = c .before .before .before .before .item .ensures _ _ _ _ (k .part) in
-      let e = c .before .before .before .skip .ensures _ _ (item-holding d) in
-      place-same k (d .name) (c .before .order .ensures) (item-rest d e) (omega (arith, d .on, e)) (c .if1 .taken)
+    let k = standing (c .before .before .before .before .before .before .loop .inv r p) (search needs) in
+    let d = c .before .before .before .before .item .ensures _ _ _ _ (k .part) in
+    let e = c .before .before .before .skip .ensures _ _ (item-holding d) in
+    place-same k (d .name) (c .before .order .ensures) (item-rest d e) (omega (arith, d .on, e)) (c .if1 .taken)
 
 returns-2 : tie.Need-returns-2 Inv-loop μ-loop
 returns-2 c =
     λ r p.
-      let k = standing (c .before .before .before .before .before .before .before .loop .inv r p) (search needs) in
-      let d = c .before .before .before .before .before .item .ensures _ _ _ _ (k .part) in
-      place-below k (d .name) (c .before .before .order .ensures) (c .if2 .taken)
+    let k = standing (c .before .before .before .before .before .before .before .loop .inv r p) (search needs) in
+    let d = c .before .before .before .before .before .item .ensures _ _ _ _ (k .part) in
+    place-below k (d .name) (c .before .before .order .ensures) (c .if2 .taken)
 
 loop-less : tie.Need-loop-less Inv-loop μ-loop
 loop-less c =
@@ -77,10 +77,10 @@ loop-less c =
 loop-again : tie.Need-loop-again Inv-loop μ-loop
 loop-again c =
     λ r p.
-      let k = standing (c .before .before .before .before .before .before .before .loop .inv r p) (search needs) in
-      let d = c .before .before .before .before .before .item .ensures _ _ _ _ (k .part) in
-      let e = c .before .before .before .before .skip .ensures _ _ (item-holding d) in
-      place-on k (d .name) (c .before .before .order .ensures) (item-rest d e) (omega (arith, d .on, e)) (c .before .if1 .left) (c .if2 .left)
+    let k = standing (c .before .before .before .before .before .before .before .loop .inv r p) (search needs) in
+    let d = c .before .before .before .before .before .item .ensures _ _ _ _ (k .part) in
+    let e = c .before .before .before .before .skip .ensures _ _ (item-holding d) in
+    place-on k (d .name) (c .before .before .order .ensures) (item-rest d e) (omega (arith, d .on, e)) (c .before .if1 .left) (c .if2 .left)
 
 returns-3 : tie.Need-returns-3 Inv-loop μ-loop
 returns-3 c = λ r p. place-end (c .before .loop .inv r p) (search needs)

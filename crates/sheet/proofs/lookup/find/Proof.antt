@@ -56,16 +56,16 @@ value-requires c κs =
 returns : tie.Need-returns Inv-loop μ-loop
 returns c =
     λ l.
-      let k = sought (c .before .before .before .before .before .before .loop .inv l) (search needs) in
-      let d = c .before .before .before .before .item .ensures _ _ _ _ (k .part) in
-      seek-found k (d .name) (c .before .before .order .ensures) _ (c .before .if1 .taken) (c .value .ensures _ (item-body d))
+    let k = sought (c .before .before .before .before .before .before .loop .inv l) (search needs) in
+    let d = c .before .before .before .before .item .ensures _ _ _ _ (k .part) in
+    seek-found k (d .name) (c .before .before .order .ensures) _ (c .before .if1 .taken) (c .value .ensures _ (item-body d))
 
 returns-2 : tie.Need-returns-2 Inv-loop μ-loop
 returns-2 c =
     λ l.
-      let k = sought (c .before .before .before .before .before .before .loop .inv l) (search needs) in
-      let d = c .before .before .before .before .item .ensures _ _ _ _ (k .part) in
-      seek-passed k (d .name) (c .before .before .order .ensures) (c .if2 .taken)
+    let k = sought (c .before .before .before .before .before .before .loop .inv l) (search needs) in
+    let d = c .before .before .before .before .item .ensures _ _ _ _ (k .part) in
+    seek-passed k (d .name) (c .before .before .order .ensures) (c .if2 .taken)
 
 skip-requires : tie.Need-skip-requires Inv-loop μ-loop
 skip-requires c κs =
@@ -81,9 +81,9 @@ loop-less c =
 loop-again : tie.Need-loop-again Inv-loop μ-loop
 loop-again c =
     λ l.
-      let k = sought (c .before .before .before .before .before .before .before .loop .inv l) (search needs) in
-      let d = c .before .before .before .before .before .item .ensures _ _ _ _ (k .part) in
-      seek-on k (d .name) (c .before .before .before .order .ensures) (c .before .before .if1 .left) (item-rest d (c .skip .ensures _ _ (item-holding d)))
+    let k = sought (c .before .before .before .before .before .before .before .loop .inv l) (search needs) in
+    let d = c .before .before .before .before .before .item .ensures _ _ _ _ (k .part) in
+    seek-on k (d .name) (c .before .before .before .order .ensures) (c .before .before .if1 .left) (item-rest d (c .skip .ensures _ _ (item-holding d)))
 
 returns-3 : tie.Need-returns-3 Inv-loop μ-loop
 returns-3 c = λ l. seek-end (c .before .loop .inv l) (search needs)

@@ -40,8 +40,8 @@ loop-less c =
 loop-again : tie.Need-loop-again Inv-loop μ-loop
 loop-again c =
     λ r j h.
-      let f = first _ _ _ _ (c .before .before .before .loop .inv r j h) (search needs) in
-      left-on f (c .before .item .ensures _ _ _ _ (f .part))
+    let f = first _ _ _ _ (c .before .before .before .loop .inv r j h) (search needs) in
+    left-on f (c .before .item .ensures _ _ _ _ (f .part))
 
 returns : tie.Need-returns Inv-loop μ-loop
 returns c = λ r j h. left-end (c .before .loop .inv r j h) (search needs)
