@@ -5,3 +5,6 @@ pub mod Order
 pub mod Find
 pub mod Look
 pub mod Check
+pub mod Place
+pub mod Moves
+pub mod Write
