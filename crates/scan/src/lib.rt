@@ -4,6 +4,8 @@ ghost use Prim.Native.Nat.{_≤_};
 ghost use lib.ListN.{length};
 ghost use Rattle.scan.specs.Sets.{member, byteIs, Spans, Sees, Starts, Skips};
 
+pub mod paths;
+
 // The sets of bytes that are scanned for; `member` of specs/Sets says what each holds.
 pub enum Set {
     Blank,
