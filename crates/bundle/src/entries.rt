@@ -2,8 +2,11 @@
 ghost use mathlib.Core.Path.{_≡_};
 ghost use Prim.Native.Nat.{_+_, _*_, _≤_, _<_};
 ghost use lib.ListN.{length, getD};
-ghost use Rattle.rules.specs.Layout.{field, fieldIf, byte, word16};
-ghost use Rattle.bundle.specs.Entries.{Body, FieldAt, lengthOf};
+ghost use mathlib.Core.Bool.{not};
+ghost use Rattle.rules.specs.Layout.{bit, field, fieldIf, byte, word16};
+ghost use Rattle.rules.specs.Bytes.{holds};
+ghost use Rattle.rules.specs.Bundle.{entry};
+ghost use Rattle.bundle.specs.Entries.{Body, FieldAt, NameAt, HeadAt, lengthOf, noHead, entryFields};
 use scan::Set;
 
 // The bits of a map byte.
@@ -79,4 +82,98 @@ fn field_if(b: &[u8], at: usize, on: bool, wide: bool) -> Field
         return long_field(b, at);
     }
     short_field(b, at)
+}
+
+// Does the map name a folder, a file name, a content?
+fn has_folder(m: u8) -> bool
+    ensures { λ r. ⌜ r ≡ bit 0 m ⌝ }
+{
+    m & FOLDER != 0
+}
+
+fn has_name(m: u8) -> bool
+    ensures { λ r. ⌜ r ≡ bit 1 m ⌝ }
+{
+    m & NAME != 0
+}
+
+fn has_content(m: u8) -> bool
+    ensures { λ r. ⌜ r ≡ bit 2 m ⌝ }
+{
+    m & CONTENT != 0
+}
+
+// Is the text free of `/`?
+fn without_slash(text: &[u8]) -> bool
+    ensures { λ r. ⌜ r ≡ not (holds "/" (now (text .entry))) ⌝ }
+{
+    scan::span(text, 0, Set::NotSlash) == text.len()
+}
+
+// An entry's file name, which holds no `/`.
+fn name(b: &[u8], at: usize) -> Field
+    requires { ⌜ at ≤ length (now b) ⌝ }
+    ensures { λ r. ⌜ NameAt (now (b .entry)) at r ⌝ }
+{
+    let f = short_field(b, at);
+    if !f.ok {
+        return f;
+    }
+    let start = f.start;
+    let end = start + f.len;
+    if !without_slash(&b[start..end]) {
+        return Field { ok: false, start: 0, len: 0 };
+    }
+    f
+}
+
+// An entry's places: its folder, its file name, its content. The next entry begins behind the content.
+pub struct Head {
+    pub ok: bool,
+    pub folder: Field,
+    pub name: Field,
+    pub content: Field,
+}
+
+// No entry: the layout is broken.
+fn no_head() -> Head
+    ensures { λ r. ⌜ r ≡ noHead ⌝ }
+{
+    let none = Field { ok: false, start: 0, len: 0 };
+    Head { ok: false, folder: none, name: none, content: none }
+}
+
+// The fields behind the map byte m.
+fn fields(b: &[u8], at: usize, m: u8) -> Head
+    requires { ⌜ at ≤ length (now b) ⌝ }
+    ensures { λ r. ⌜ HeadAt (now (b .entry)) (entryFields (length (now (b .entry))) m) at r ⌝ }
+{
+    let g = field_if(b, at, has_folder(m), false);
+    if !g.ok {
+        return no_head();
+    }
+    let f = name(b, g.start + g.len);
+    if !f.ok {
+        return no_head();
+    }
+    let c = field_if(b, f.start + f.len, has_content(m), true);
+    if !c.ok {
+        return no_head();
+    }
+    Head { ok: true, folder: g, name: f, content: c }
+}
+
+// The entry at a place.
+pub fn entry_at(b: &[u8], at: usize) -> Head
+    requires { ⌜ at ≤ length (now b) ⌝ }
+    ensures { λ r. ⌜ HeadAt (now (b .entry)) (entry (length (now (b .entry)))) at r ⌝ }
+{
+    if b.len() <= at {
+        return no_head();
+    }
+    let m = b[at];
+    if (8 <= m) | !has_name(m) {
+        return no_head();
+    }
+    fields(b, at + 1, m)
 }
