@@ -1,1 +1,3 @@
 pub mod Entries
+pub mod Order
+pub mod Check

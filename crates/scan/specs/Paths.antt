@@ -376,6 +376,7 @@ module _ (g p : List ℕ) where
 pub record Joins (g p : List ℕ) (r : Joined) : Type 0 where
   pub says : r .ok ≡ leb (length (join g p)) 255
   pub fits : r .len ≤ 255
+  pub size : length (r .bytes) ≡ 255
   pub text : r .ok ≡ true → take (r .len) (r .bytes) ≡ join g p
 
 -- TRIMMING. n bytes are left without the trailing blanks.
@@ -403,14 +404,14 @@ pub copied-on : {j b : List ℕ} {i n : ℕ} → Copied j b i n → {x : ℕ} �
 copied-on {j} {b} {i} {n} k {x} h e l q = rw add-one (record { inside = h; size = length-set b i x ∙ k .size; text = take-suc-set b i x (omega (arith, k .size)) ∙ rw (k .text, q) (sym (take-suc j i 0 (omega arith))) })
 
 module _ (g p : List ℕ) (n : ℕ) (l : JoinedLen g p n) where
-  pub joins-over : (b : List ℕ) → 255 < n → Joins g p (record { ok = false; len = 0; bytes = b })
-  joins-over b h = record { says = sym (lt-leb _ 255 (l .over h)); fits = omega arith; text = λ e. absurd (true≢false (sym e)) }
+  pub joins-over : (b : List ℕ) → length b ≡ 255 → 255 < n → Joins g p (record { ok = false; len = 0; bytes = b })
+  joins-over b z h = record { says = sym (lt-leb _ 255 (l .over h)); fits = omega arith; size = z; text = λ e. absurd (true≢false (sym e)) }
 
   pub joins-all : (b : List ℕ) (i : ℕ) → n ≤ 255 → n ≤ i → Copied (join g p) b i n → Joins g p (record { ok = true; len = n; bytes = b })
   joins-all b i h m k =
       let e = l .fits h in
       let q : i ≡ n = omega (arith, k .inside) in
-      record { says = sym (le-leb (length (join g p)) 255 (omega (arith, e))); fits = h; text = λ z. rw q at (k .text) ∙ take-all n (join g p) (omega (arith, e)) }
+      record { says = sym (le-leb (length (join g p)) 255 (omega (arith, e))); fits = h; size = k .size; text = λ z. rw q at (k .text) ∙ take-all n (join g p) (omega (arith, e)) }
 
 -- The trimmed text, with i bytes passed and the last one that is not blank before n, by whether only blanks follow.
 abbrev pub closing : List ℕ → ℕ → ℕ → Bool → List ℕ

@@ -22,7 +22,7 @@ joined-len-requires : tie.Need-joined-len-requires Inv-loop μ-loop
 joined-len-requires c κs = search needs
 
 returns : tie.Need-returns Inv-loop μ-loop
-returns c = joins-over _ _ _ (c .before .joined-len .ensures) _ (search needs)
+returns c = joins-over _ _ _ (c .before .joined-len .ensures) _ refl (search needs)
 
 loop-holds : tie.Need-loop-holds Inv-loop μ-loop
 loop-holds c = copied-start _ _ _ refl
