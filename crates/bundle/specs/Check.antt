@@ -263,12 +263,16 @@ pub check-short : (b : List ℕ) → length b < 2 → false ≡ isSome (bundleOf
 unfolding bundleOf bundleParser _>>=_ bind isSome
 check-short b h = sym (rw (word-end b 0 (omega arith)))
 
+pub bundle-rest : (b : List ℕ) → 1 < length b → bundleOf b ≡ closing [] (times (getD b 0 0 + 256 * getD b 1 0) (entry (length b)) (drop 2 b))
+unfolding bundleOf bundleParser _>>=_ bind
+bundle-rest b h = rw (word-at b 0 h) (opening (times (getD b 0 0 + 256 * getD b 1 0) (entry (length b)) (drop 2 b)))
+
 pub walking-start : (b : List ℕ) {n : ℕ} → 1 < length b → n ≡ getD b 0 0 + 256 * getD b 1 0 → {w : Walk} → Starts true w → Walking b n w
-unfolding bundleOf bundleParser pathsOf _>>=_ bind
+unfolding pathsOf
 walking-start b {n} h e {w} s = ([], record {
   place = omega (arith, s .place);
   room = s .room;
-  rest = rw (s .place, e, word-at b 0 h) (opening (times (getD b 0 0 + 256 * getD b 1 0) (entry (length b)) (drop 2 b)));
+  rest = rw (s .place, e) (bundle-rest b h);
   paths = record { well = rw (s .none) well-start; marks = rw (s .none) (record { on = λ l g m. absurd (unmarked l g m); off = λ l g i. absurd i }) };
 })
   where
