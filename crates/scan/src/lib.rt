@@ -5,6 +5,8 @@ ghost use lib.ListN.{length};
 ghost use Rattle.rules.specs.Reader.{all};
 ghost use Rattle.scan.specs.Sets.{member, byteIs, Spans, Sees, Starts, Skips};
 
+pub mod paths;
+
 // The sets of bytes that are scanned for; `member` of specs/Sets says what each holds.
 pub enum Set {
     Blank,

@@ -1,0 +1,50 @@
+use borrow.Author.Needs.{needs}
+use Rattle.bundle.proofs.entries.entry_at.Statement.{statement}
+use Rattle.bundle.proofs.entries.entry_at.Tie as tie
+use Rattle.bundle.proofs.entries.entry_at.Reads as reads
+use Rattle.bundle.proofs.entries.entry_at.Lts as lts
+use Rattle.bundle.proofs.entries.fields.Reads as fields-reads
+use Rattle.bundle.proofs.entries.has_name.Reads as has-name-reads
+use Rattle.bundle.proofs.entries.no_head.Reads as no-head-reads
+use Rattle.bundle.specs.Entries.{entry-end, entry-no-map, entry-fields}
+
+no-head-requires : tie.Need-no-head-requires
+no-head-requires c κs = search needs
+
+returns : tie.Need-returns
+returns c = entry-end _ _ (search needs) (c .no-head .ensures)
+
+shared-slice-read-m : tie.Need-shared-slice-read-m
+shared-slice-read-m c = search needs
+
+has-name-requires : tie.Need-has-name-requires
+has-name-requires c κs = search needs
+
+no-head-requires-2 : tie.Need-no-head-requires-2
+no-head-requires-2 c κs = search needs
+
+returns-2 : tie.Need-returns-2
+returns-2 c = entry-no-map _ _ (search needs) (c .before .before .has-name .ensures) (c .before .if2 .taken) (c .no-head2 .ensures)
+
+add-fields : tie.Need-add-fields
+add-fields c = search needs
+
+fields-requires : tie.Need-fields-requires
+fields-requires c κs = search needs
+
+returns-3 : tie.Need-returns-3
+returns-3 c = entry-fields _ _ (search needs) (c .before .before .has-name .ensures) (c .before .if2 .left) (c .fields .ensures)
+
+pub entry-at-spec : {M : Type 1} → statement M
+entry-at-spec =
+    tie.close
+    (tie.spec
+    no-head-requires
+    returns
+    shared-slice-read-m
+    has-name-requires
+    no-head-requires-2
+    returns-2
+    add-fields
+    fields-requires
+    returns-3)

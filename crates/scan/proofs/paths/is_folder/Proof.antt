@@ -1,0 +1,20 @@
+use borrow.Author.Needs.{needs}
+use Rattle.scan.proofs.paths.is_folder.Statement.{statement}
+use Rattle.scan.proofs.paths.is_folder.Tie as tie
+use Rattle.scan.proofs.paths.is_folder.Reads as reads
+use Rattle.scan.proofs.paths.is_folder.Lts as lts
+use Rattle.scan.proofs.paths.is_path.Reads as is-path-reads
+use mathlib.Core.Path.{_≡_, refl, sym, ap, _∙_}
+use Rattle.scan.specs.Paths.{folder-empty, folder-path}
+
+returns : tie.Need-returns
+returns c = folder-empty _ (search needs)
+
+is-path-requires : tie.Need-is-path-requires
+is-path-requires c κs = search needs
+
+returns-2 : tie.Need-returns-2
+returns-2 c = c .is-path .ensures ∙ folder-path _ (search needs)
+
+pub is-folder-spec : {M : Type 1} → statement M
+is-folder-spec = tie.close (tie.spec returns is-path-requires returns-2)
