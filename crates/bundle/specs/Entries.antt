@@ -20,7 +20,7 @@ use Rattle.rules.specs.Layout.{Parser, bind, _>>=_, _>>_, pure, broken, require
 use Rattle.rules.specs.Bundle.{Entry, entry}
 use Rattle.rules.specs.Laws.Bool.{and-l, and-r, and-i, or-elim, or-false-l, or-false-r}
 use Rattle.scan.specs.Sets.{Spans}
-use Rattle.buffers.specs.Laws.{span-all, all-span}
+use Rattle.scan.specs.Laws.{span-all, all-span}
 use Rattle.bundle.specs.declared.entries.Field.{Field}
 use Rattle.bundle.specs.declared.entries.Head.{Head}
 
