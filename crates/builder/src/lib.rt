@@ -4,8 +4,9 @@ use sheet::lookup::Found;
 ghost use mathlib.Core.Path.{_≡_};
 ghost use Prim.Native.Nat.{_-_, _≤_};
 ghost use lib.ListN.{length, take, drop};
-ghost use Rattle.rules.specs.Calls.{resolveOf, resolveStringOf};
+ghost use Rattle.rules.specs.Calls.{resolveOf, resolveStringOf, findFileOf};
 ghost use Rattle.sheet.specs.Find.{foundKind};
+ghost use Rattle.builder.specs.Files.{fileAnswer};
 ghost use Rattle.builder.specs.Text.{TextAt, Gave, Refuses};
 
 // A lookup's answer. Kind: 0 missing, 1 none, 2 text, 3 dictionary.
@@ -114,4 +115,62 @@ pub fn resolve_string(sheet: &[u8], path: &[u8], out: &mut [u8]) -> Text
     }
     let place = text_place(sheet::lookup::lookup(sheet, path, false));
     give(sheet, place.from, place.to, out)
+}
+
+// What a path is in a bundle. Kind: 0 absent, 1 folder, 2 file; a file's content stands at `start` in the bundle.
+#[repr(C)]
+pub struct FoundFile {
+    pub number: u8,
+    pub kind: u8,
+    pub start: usize,
+    pub len: usize,
+}
+
+// The answer of what was found.
+fn found_file(found: bundle::Found) -> FoundFile
+    ensures { λ r. ⌜ fileAnswer found ≡ record { number = r .number; kind = r .kind; start = r .start; len = r .len } ⌝ }
+{
+    match found {
+        bundle::Found::Absent => FoundFile {
+            number: 0,
+            kind: 0,
+            start: 0,
+            len: 0,
+        },
+        bundle::Found::Folder => FoundFile {
+            number: 0,
+            kind: 1,
+            start: 0,
+            len: 0,
+        },
+        bundle::Found::File { start, len } => FoundFile {
+            number: 0,
+            kind: 2,
+            start: start,
+            len: len,
+        },
+    }
+}
+
+// Finds a path in a bundle: 2, 4.
+pub fn find_file(bundle: &[u8], path: &[u8]) -> FoundFile
+    ensures { λ r. ⌜ findFileOf (now (bundle .entry)) (now (path .entry)) ≡ record { number = r .number; kind = r .kind; start = r .start; len = r .len } ⌝ }
+{
+    if !bundle::check(bundle) {
+        return FoundFile {
+            number: 2,
+            kind: 0,
+            start: 0,
+            len: 0,
+        };
+    }
+    if !scan::paths::is_path(path) {
+        return FoundFile {
+            number: 4,
+            kind: 0,
+            start: 0,
+            len: 0,
+        };
+    }
+    found_file(bundle::find(bundle, path))
 }

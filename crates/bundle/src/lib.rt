@@ -10,7 +10,8 @@ mod near;
 mod order;
 mod walk;
 
-use entries::{entry_at, word};
+use entries::entry_at;
+use entries::word;
 
 // Does the bundle keep its layout?
 pub fn check(b: &[u8]) -> bool
@@ -50,7 +51,10 @@ pub fn find(b: &[u8], path: &[u8]) -> Found
         let h = entry_at(b, at);
         let n = near::relate(b, h, path);
         if n.same {
-            return Found::File { start: h.content.start, len: h.content.len };
+            return Found::File {
+                start: h.content.start,
+                len: h.content.len,
+            };
         }
         folder = folder | n.below;
         at = h.content.start + h.content.len;
