@@ -54,8 +54,8 @@ enum-known-f c = search needs
 returns-2 : tie.Need-returns-2 Inv-loop μ-loop
 returns-2 c =
     λ r e g.
-      let w = c .before .before .before .before .before .loop .inv .1 r e g in
-      walk-stop _ _ w (dot-spans (c .before .before .before .before .span .ensures)) (omega (arith, c .before .if1 .left, c .before .before .before .before .span .ensures .inside)) _ (λ a b n h. none-of (ap (tagOf the-type) h) (c .match .keys2)) (c .before .before .find .ensures (w .level))
+    let w = c .before .before .before .before .before .loop .inv .1 r e g in
+    walk-stop _ _ w (dot-spans (c .before .before .before .before .span .ensures)) (omega (arith, c .before .if1 .left, c .before .before .before .before .span .ensures .inside)) _ (λ a b n h. none-of (ap (tagOf the-type) h) (c .match .keys2)) (c .before .before .find .ensures (w .level))
 
 add-p : tie.Need-add-p Inv-loop μ-loop
 add-p c = omega (arith, c .before .before .before .if1 .left, c .before .before .before .before .before .before .span .ensures .inside)
