@@ -393,6 +393,21 @@ module _ (s : List ℕ) (m from to : ℕ) (g : goodMap m ≡ true) where
       },
     )
 
+-- A text's head, whatever else the map byte says.
+pub text-map : goodMap 2 ≡ true
+unfolding goodMap
+text-map = refl
+
+pub text-bit : bitAnd 2 2 ≡ 0 → ⊥
+text-bit e = omega arith
+
+pub value-as-text : (s : List ℕ) (m from to : ℕ) → goodMap m ≡ true → (h : Head) → (bitAnd m 2 ≡ 0 → ⊥) → ValueReads s 2 from to h → ValueReads s m from to h
+unfolding ValueReads
+value-as-text s m from to g Bad n w = rw (is-text m g n) w
+value-as-text s m from to g (Record o) n w =
+    let d = w .2 in
+    (w .0, w .1, record { v = d .v; is = rw (is-text m g n) (d .is); behind = d .behind; on = d .on; inside = d .inside; sort = d .sort; text = d .text; number = d .number })
+
 -- THE RECORD.
 pub reads-end : (s : List ℕ) (i : ℕ) → length s ≤ i → Reads s i Bad
 unfolding Reads head byte bind _>>=_

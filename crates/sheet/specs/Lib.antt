@@ -8,3 +8,4 @@ pub mod Check
 pub mod Place
 pub mod Moves
 pub mod Write
+pub mod Use

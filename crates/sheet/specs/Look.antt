@@ -11,14 +11,15 @@ use lib.Dec.{eqb}
 use lib.ListN.{length, take, drop, getD, drop-of-length-le, length-drop, take-append-drop}
 use lib.Seq.{drop-cons, drop-drop, take-suc, getD-drop}
 use borrow.Author.Tests.{eq-eqb, ne-eqb}
-use Rattle.rules.specs.Reader.{all, but, the}
+use Rattle.rules.specs.Reader.{all, but, the, span}
 use Rattle.rules.specs.Bytes.{word, nameByte, split, prepend}
 use Rattle.rules.specs.Layout.{bind}
 use Rattle.rules.specs.Sheet.{Value, text, nothing, dictionary, Records, encode, count, goodRecords, goodValue, get, getFields, getPieces, resolve}
 use Rattle.rules.specs.Laws.Bool.{and-l, and-r}
 use Rattle.rules.specs.Laws.Texts.{all-append}
 use Rattle.rules.specs.Laws.Sheet.{get-good}
-use Rattle.sheet.specs.Parts.{Part, slice, slice-part, slice-more, append-nil}
+use Rattle.scan.specs.Sets.{Spans}
+use Rattle.sheet.specs.Parts.{Part, slice, slice-part, append-nil}
 use Rattle.sheet.specs.Order.{made, asked, asked-length, asked-slice, asked-dot, asked-getD, made-dot}
 use Rattle.sheet.specs.Find.{Gives, Level}
 use Rattle.sheet.specs.declared.lookup.Found.{Found}
@@ -31,32 +32,40 @@ pub record UpToDot (t : List ℕ) (p q : ℕ) : Type 0 where
   pub none : all (but ".") (slice p q t) ≡ true
   pub at : q < length t → but "." (getD t q 0) ≡ false
 
--- From p up to i there is no `.`.
-pub record Dotless (t : List ℕ) (p i : ℕ) : Type 0 where
-  pub on : p ≤ i
-  pub inside : i ≤ length t
-  pub none : all (but ".") (slice p i t) ≡ true
+span-good-at : (p : ℕ → Bool) (x : ℕ) (xs : List ℕ) (c : Bool) → p x ≡ c → all p (span p xs .0) ≡ true → all p (span p (x ∷ xs) .0) ≡ true
+unfolding span all
+span-good-at p x xs true e h = rw (e, span) (rw e h)
+span-good-at p x xs false e h = rw (e, span) refl
 
-pub dotless-start : (t : List ℕ) (p : ℕ) → p ≤ length t → Dotless t p p
-unfolding all
-dotless-start t p h = let e : p - p ≡ 0 = omega arith in record { on = omega arith; inside = h; none = rw e refl }
+span-good : (p : ℕ → Bool) (u : List ℕ) → all p (span p u .0) ≡ true
+unfolding span all
+span-good p [] = refl
+span-good p (x ∷ xs) = span-good-at p x xs (p x) refl (span-good p xs)
 
-module _ {t : List ℕ} {p i : ℕ} (d : Dotless t p i) where
-  pub dotless-end : length t ≤ i → UpToDot t p i
-  dotless-end h = record { on = d .on; inside = d .inside; none = d .none; at = λ l. absurd (omega arith) }
+span-stop-at : (p : ℕ → Bool) (x : ℕ) (xs : List ℕ) (y : ℕ) (ys : List ℕ) (c : Bool) → p x ≡ c → (span p xs .1 ≡ y ∷ ys → p y ≡ false) → span p (x ∷ xs) .1 ≡ y ∷ ys → p y ≡ false
+unfolding span
+span-stop-at p x xs y ys true e f h = f (rw (e, span) at h)
+span-stop-at p x xs y ys false e f h =
+    let g : x ∷ xs ≡ y ∷ ys = rw (e, span) at h in
+    let z : x ≡ y = cc g in
+    sym (ap p z) ∙ e
 
-  pub dotless-dot : getD t i 0 ≡ 46 → UpToDot t p i
-  unfolding but
-  dotless-dot e = record { on = d .on; inside = d .inside; none = d .none; at = λ l. ap not (eq-eqb (getD t i 0) 46 e) }
+span-stop : (p : ℕ → Bool) (u : List ℕ) (y : ℕ) (ys : List ℕ) → span p u .1 ≡ y ∷ ys → p y ≡ false
+unfolding span
+span-stop p [] y ys h = absurd (nil-cons y ys h)
+  where
+    nil-cons : (y : ℕ) (ys : List ℕ) → [] ≡ y ∷ ys → ⊥
+    nil-cons y ys h = let z : _≡_ {A = ℕ} 0 1 = cc in omega arith
+span-stop p (x ∷ xs) y ys h = span-stop-at p x xs y ys (p x) refl (span-stop p xs y ys) h
 
-  pub dotless-on : i < length t → (getD t i 0 ≡ 46 → ⊥) → Dotless t p (i + 1)
-  unfolding all but
-  dotless-on h e =
-      record {
-        on = omega (arith, d .on);
-        inside = omega arith;
-        none = rw (slice-more p i t (d .on) h) (all-append (but ".") (slice p i t) (getD t i 0 ∷ []) (d .none) (rw (ne-eqb (getD t i 0) 46 e) refl));
-      }
+-- What `span` answers.
+pub dot-spans : {t : List ℕ} {p q : ℕ} → Spans (but ".") t p q → UpToDot t p q
+dot-spans {t} {p} {q} s = record {
+  on = s .on;
+  inside = s .inside;
+  none = rw (s .took) at (span-good (but ".") (drop p t));
+  at = λ l. span-stop (but ".") (drop p t) (getD t q 0) (drop (suc q) t) (s .rest ∙ drop-cons t q 0 l);
+}
 
 -- The same in a path as it is asked for.
 pub dot-asked : (b : Bool) (t : List ℕ) {p q : ℕ} → UpToDot t p q → UpToDot (asked b t) p q

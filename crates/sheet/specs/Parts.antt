@@ -52,17 +52,6 @@ part-of s i x j h k e =
     let l : length s - i ≡ length x + (length s - j) = sym (length-drop i s) ∙ ap length e ∙ length-append x (drop j s) ∙ ap (λ z. length x + z) (length-drop j s) in
     record { ends = omega arith; inside = k; bytes = e }
 
--- All that is behind k.
-pub tail-slice : (t : List ℕ) (k : ℕ) → take (length t - k) (drop k t) ≡ drop k t
-tail-slice t k = take-all (length t - k) (drop k t) (rw length-drop (le-refl (length t - k)))
-
--- One byte more.
-pub slice-more : (p i : ℕ) (t : List ℕ) → p ≤ i → i < length t → slice p (i + 1) t ≡ slice p i t ++ (getD t i 0 ∷ [])
-slice-more p i t h k =
-    let e : i + 1 - p ≡ suc (i - p) = omega arith in
-    let f : p + (i - p) ≡ i = omega arith in
-    rw (e, take-suc (drop p t) (i - p) 0 (rw length-drop (omega arith)), getD-drop, f) refl
-
 pub append-nil : (a : List ℕ) → a ++ [] ≡ a
 append-nil [] = refl
 append-nil (x ∷ xs) = ap (λ z. x ∷ z) (append-nil xs)

@@ -204,9 +204,6 @@ module _ {s : List ℕ} {r : Records} {name : List ℕ} {i j : ℕ} (p : Placed 
       rw (p .is v, one-opening name v bit size own w)
       (simp length-append (omega (arith, opening-length name bit size, length-drop j s, length-take-le i s (omega (arith, p .on, p .inside)))))
 
-  pub set-long : openLen (length name) bit + length own ≤ length (encode (set r name v))
-  set-long = omega (arith, set-length)
-
 -- A binding is no shorter than its record.
 set-size-at : (n m : List ℕ) (v w : Value) (r : Records) (c d : Bool) → less n m ≡ c → less m n ≡ d → length (one n v) ≤ length (encode (set r n v)) → length (one n v) ≤ length (encode (set (rec m w r) n v))
 unfolding set
@@ -336,17 +333,14 @@ some-eq : (v w : Value) → some v ≡ some w → v ≡ w
 some-eq v w h = cc
 
 -- What `source_of` answers.
+pub source-none : (s : List ℕ) (v : Value) (f : Found) → ((a b : ℕ) → f ≡ Text a b → ⊥) → ((a b n : ℕ) → f ≡ Dictionary a b n → ⊥) → Gives s (some v) f → Sources s v (record { bit = 8; from = 0; to = 0; size = 0 })
+unfolding Gives
+source-none s v Missing h k g = let z : _≡_ {A = ℕ} 0 1 = cc g in absurd (omega arith)
+source-none s v None h k g = record { on = omega arith; inside = omega arith; is = rw (some-eq v nothing g) none-source }
+source-none s v (Text a b) h k g = absurd (h a b refl)
+source-none s v (Dictionary a b n) h k g = absurd (k a b n refl)
+
 module _ (s : List ℕ) (v : Value) {f : Found} (w : Gives s (some v) f) where
-  pub source-missing : {P : Type 0} → f ≡ Missing → P
-  unfolding Gives
-  source-missing e = let g : some v ≡ none = rw e at w in let z : _≡_ {A = ℕ} 0 1 = cc g in absurd (omega arith)
-
-  pub source-none : f ≡ None → Sources s v (record { bit = 8; from = 0; to = 0; size = 0 })
-  unfolding Gives
-  source-none h =
-      let g : some v ≡ some nothing = rw h at w in
-      record { on = omega arith; inside = omega arith; is = rw (some-eq v nothing g) none-source }
-
   module _ {a b : ℕ} (h : f ≡ Text a b) where
     there : Gives s (some v) (Text a b)
     there = rw h at w

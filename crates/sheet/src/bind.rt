@@ -221,13 +221,7 @@ fn source_of(value: Found) -> Source
     ensures { λ o. ⌜ ((s : List ℕ) (v : Value) → Gives s (some v) value → Sources s v o) ⌝ }
 {
     match value {
-        Found::Missing => Source {
-            bit: NONE,
-            from: 0,
-            to: 0,
-            size: 0,
-        },
-        Found::None => Source {
+        Found::Missing | Found::None => Source {
             bit: NONE,
             from: 0,
             to: 0,

@@ -67,24 +67,32 @@ fn field(s: &[u8], at: usize) -> usize
     n
 }
 
+// The record of a text that stands behind the name from a place to another.
+fn text_head(s: &[u8], from: usize, to: usize) -> Head
+    requires { ⌜ to ≤ length (now s) ⌝ }
+    ensures { λ h. ⌜ ValueReads (now (s .entry)) 2 from to h ⌝ }
+{
+    let k = field(s, to);
+    if k == 0 {
+        return Head::Bad;
+    }
+    Head::Record(Item {
+        from: from,
+        to: to,
+        kind: 2,
+        at: to + 2,
+        next: to + 2 + k,
+        count: 0,
+    })
+}
+
 // The record with the map byte m and the name from a place to another, its value behind that.
 fn value_head(s: &[u8], m: u8, from: usize, to: usize) -> Head
     requires { ⌜ (to ≤ length (now s)) × (goodMap m ≡ true) ⌝ }
     ensures { λ h. ⌜ ValueReads (now (s .entry)) m from to h ⌝ }
 {
     if m & TEXT != 0 {
-        let k = field(s, to);
-        if k == 0 {
-            return Head::Bad;
-        }
-        return Head::Record(Item {
-            from: from,
-            to: to,
-            kind: 2,
-            at: to + 2,
-            next: to + 2 + k,
-            count: 0,
-        });
+        return text_head(s, from, to);
     }
     if m & DICTIONARY != 0 {
         if s.len() - to < 2 {

@@ -8,15 +8,13 @@ ghost use mathlib.Core.Path.{_≡_};
 ghost use mathlib.Core.Bool.{true};
 ghost use mathlib.Core.List.{List};
 ghost use mathlib.Core.Option.{some};
-ghost use Prim.Native.Nat.{ℕ, _≤_};
-ghost use lib.ListN.{length};
+ghost use Prim.Native.Nat.{ℕ};
 ghost use Rattle.rules.specs.Bytes.{word};
 ghost use Rattle.rules.specs.Sheet.{Value, Records, rec, encode, goodRecords, get, resolve};
 ghost use Rattle.sheet.specs.Parts.{Part};
 ghost use Rattle.sheet.specs.Items.{At, Told, Holding, Has};
 ghost use Rattle.sheet.specs.Order.{made, asked, orderOf};
 ghost use Rattle.sheet.specs.Find.{Gives, Body, HasBody, Level, IsSheet};
-ghost use Rattle.sheet.specs.Look.{UpToDot};
 
 // What a lookup finds, with its place in the sheet.
 pub enum Found {
@@ -146,21 +144,6 @@ pub fn find(s: &[u8], at: usize, end: usize, name: &[u8], reference: bool) -> Fo
     Found::Missing
 }
 
-// The place of the next `.`, or the end.
-fn dot(path: &[u8], p: usize) -> usize
-    requires { ⌜ p ≤ length (now path) ⌝ }
-    ensures { λ q. ⌜ UpToDot (now (path .entry)) p q ⌝ }
-{
-    let mut i = p;
-    while i < path.len() {
-        if path[i] == b'.' {
-            return i;
-        }
-        i += 1;
-    }
-    i
-}
-
 // Looks a path up: a binding, then keys, parted by `.`.
 pub fn lookup(s: &[u8], path: &[u8], reference: bool) -> Found
     requires { ⌜ IsSheet (now s) ⌝ }
@@ -170,7 +153,7 @@ pub fn lookup(s: &[u8], path: &[u8], reference: bool) -> Found
     let mut end = s.len();
     let mut p: usize = 0;
     loop {
-        let q = dot(path, p);
+        let q = scan::span(path, p, scan::Set::NotDot);
         let f = find(s, at, end, &path[p..q], reference);
         if q == path.len() {
             return f;

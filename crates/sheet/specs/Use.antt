@@ -1,0 +1,72 @@
+-- For callers: a sheet that was checked is the bytes of good records, and so is what a binding leaves.
+use mathlib.Core.Path.{_≡_, refl, sym, ap, _∙_}
+use mathlib.Core.Bool.{Bool, true, false, _&&_, false≢true}
+use mathlib.Core.List.{List, [], _∷_}
+use mathlib.Core.Option.{Option, none, some}
+use Prim.Native.Nat.{ℕ, zero, suc, _≤_, _<_}
+use lib.Dec.{ltb}
+use lib.ListN.{length, take, getD}
+use Rattle.rules.specs.Reader.{all}
+use Rattle.rules.specs.Bytes.{word}
+use Rattle.rules.specs.Sheet.{Value, Records, encode, sheetLength, goodRecords, goodValue, sheetOf, set}
+use Rattle.rules.specs.Laws.Bool.{and-i, ltb-true}
+use Rattle.rules.specs.Laws.Sheet.{isByte, sheet-good, sheet-canonical, set-good}
+use Rattle.sheet.specs.Find.{IsSheet}
+use Rattle.sheet.specs.Check.{isSome}
+use Rattle.sheet.specs.Place.{HasRecords}
+use Rattle.sheet.specs.Write.{Bindable, BindsTo, Leaves}
+use Rattle.sheet.specs.declared.bind.Bound.{Bound}
+use Rattle.sheet.specs.declared.bind.Bound.the-variants.{Over, Length}
+
+-- A list whose elements are bytes, as the list of a slice is.
+pub all-bytes : (b : List ℕ) → ((i : ℕ) → getD b i 0 < 256) → all isByte b ≡ true
+unfolding all isByte
+all-bytes [] h = refl
+all-bytes (x ∷ b) h = and-i (ltb x 256) (all isByte b) (ltb-true x 256 (h 0)) (all-bytes b (λ i. h (suc i)))
+
+-- What is known of a sheet that was checked.
+pub record Checked (b : List ℕ) : Type 0 where
+  pub r : Records
+  pub of : sheetOf b ≡ some r
+  pub bytes : b ≡ encode r
+  pub good : goodRecords r word 6 ≡ true
+  pub short : length b ≤ 65535
+
+pub checked : (b : List ℕ) → all isByte b ≡ true → isSome (sheetOf b) ≡ true → Checked b
+unfolding isSome
+checked b a h = go (sheetOf b) refl h
+  where
+    go : (x : Option Records) → sheetOf b ≡ x → isSome x ≡ true → Checked b
+    go none e h = absurd (false≢true h)
+    go (some r) e h =
+        let g = sheet-good b r e in
+        record { r = r; of = e; bytes = sym (sheet-canonical b r a e); good = g .good; short = g .short }
+
+-- A sheet that was refused has no records.
+pub refused : (b : List ℕ) → isSome (sheetOf b) ≡ false → sheetOf b ≡ none
+unfolding isSome
+refused b h = go (sheetOf b) h
+  where
+    go : (x : Option Records) → isSome x ≡ false → x ≡ none
+    go none h = refl
+    go (some r) h = absurd (false≢true (sym h))
+
+-- It can be looked up in, and be bound in.
+pub to-look : {b : List ℕ} → Checked b → IsSheet b
+to-look c = record { r = c .r; bytes = c .bytes; good = c .good }
+
+pub to-bind : {b : List ℕ} → IsSheet b → HasRecords b
+to-bind s = record { r = s .r; bytes = s .bytes }
+
+-- What a binding leaves.
+module _ {b : List ℕ} {n l : ℕ} {name : List ℕ} {v : Value} {c : List ℕ} (r : Records) (e : take n b ≡ encode r) where
+  pub bound-bytes : {m : ℕ} → BindsTo b n l name v c (Length m) → (m ≤ l) × (take m c ≡ encode (set r name v)) × (m ≡ sheetLength (set r name v))
+  unfolding Leaves sheetLength
+  bound-bytes w = let g = w .leaves r e in (g .0, g .2, g .1)
+
+  pub over-long : BindsTo b n l name v c Over → l < sheetLength (set r name v)
+  unfolding Leaves sheetLength
+  over-long w = w .leaves r e
+
+  pub bound-sheet : {m : ℕ} → goodRecords r word 6 ≡ true → all word name ≡ true → goodValue v 6 ≡ true → BindsTo b n l name v c (Length m) → IsSheet (take m c)
+  bound-sheet g a o w = record { r = set r name v; bytes = bound-bytes w .1; good = set-good r word 6 name v g a o }
