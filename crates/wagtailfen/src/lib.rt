@@ -2,7 +2,7 @@
 // returned by value.
 ghost use mathlib.Core.Path.{_≡_};
 ghost use lib.ListN.{length};
-ghost use Rattle.rules.specs.Calls.{resolveOf, resolveStringOf};
+ghost use Rattle.rules.specs.Calls.{resolveOf, resolveStringOf, findFileOf};
 
 #[no_mangle]
 pub extern "C" fn wf_resolve(sheet: &[u8], path: &[u8]) -> builder::Resolved
@@ -16,4 +16,11 @@ pub extern "C" fn wf_resolve_string(sheet: &[u8], path: &[u8], out: &mut [u8]) -
     ensures { λ r. ⌜ resolveStringOf (now (sheet .entry)) (now (path .entry)) (length (now (out .entry))) ≡ record { number = r .number; len = r .len; out = now (out .exit) } ⌝ }
 {
     builder::resolve_string(sheet, path, out)
+}
+
+#[no_mangle]
+pub extern "C" fn wf_find_file(bundle: &[u8], path: &[u8]) -> builder::FoundFile
+    ensures { λ r. ⌜ findFileOf (now (bundle .entry)) (now (path .entry)) ≡ record { number = r .number; kind = r .kind; start = r .start; len = r .len } ⌝ }
+{
+    builder::find_file(bundle, path)
 }
