@@ -24,7 +24,7 @@ impl Mode for Find {
     }
 
     fn share(&self) -> u64 {
-        if self.disk { 500 } else { 1 }
+        if self.disk { 1000 } else { 1 }
     }
 
     fn case(&self, rng: &mut Rng) -> Case {
