@@ -15,7 +15,6 @@ use Rattle.rules.specs.Reader.{all, span}
 use Rattle.rules.specs.Bytes.{blank}
 use Rattle.rules.specs.Calls.{zeros, padded}
 use Rattle.rules.specs.Laws.Bool.{and-l, and-r, and-i, or-l, or-false-l, or-false-r, true-leb, true-ltb, false-ltb, false-eqb}
-use Rattle.scan.specs.Sets.{Spans}
 use Rattle.buffers.specs.Put.{step, after, spill, Writer, Put}
 
 -- PLACES.
@@ -157,36 +156,6 @@ module _ {room : ℕ} {b : List ℕ} {p : ℕ} {v c : List ℕ} {q : ℕ} (s : P
       go (no k) =
           sets-out c q w (omega (arith, put-length)) ∙ s .stored
           ∙ sym (sets-out (sets b p v) (p + length v) w (omega (arith, length-sets b p v, put-not h (omega arith)))) ∙ sets-append b p v w
-
--- BLANKS to the end.
-none-all : (p : ℕ → Bool) (x : ℕ) (xs : List ℕ) (c : Bool) → p x ≡ c → span p (x ∷ xs) .1 ≡ [] → (span p xs .1 ≡ [] → all p xs ≡ true) → all p (x ∷ xs) ≡ true
-unfolding span all
-none-all p x xs true q h ih = and-i (p x) (all p xs) q (ih (rw (q, span) at h))
-none-all p x xs false q h ih = let z : x ∷ xs ≡ [] = rw (q, span) at h in let o : _≡_ {A = ℕ} 0 1 = cc in absurd (omega arith)
-
-pub span-all : (p : ℕ → Bool) (t : List ℕ) → span p t .1 ≡ [] → all p t ≡ true
-unfolding span all
-span-all p [] h = refl
-span-all p (x ∷ xs) h = none-all p x xs (p x) refl h (span-all p xs)
-
-all-none : (p : ℕ → Bool) (x : ℕ) (xs : List ℕ) → all p (x ∷ xs) ≡ true → span p xs .1 ≡ [] → span p (x ∷ xs) .1 ≡ []
-unfolding span all
-all-none p x xs h ih = rw (and-l (p x) (all p xs) h, span) ih
-
-pub all-span : (p : ℕ → Bool) (t : List ℕ) → all p t ≡ true → span p t .1 ≡ []
-unfolding span all
-all-span p [] h = refl
-all-span p (x ∷ xs) h = all-none p x xs h (all-span p xs (and-r (p x) (all p xs) h))
-
-not-true : (c : Bool) → (c ≡ true → ⊥) → c ≡ false
-not-true true h = absurd (h refl)
-not-true false h = refl
-
-pub spans-all : (p : ℕ → Bool) (t : List ℕ) (i j : ℕ) → Spans p t i j → j ≡ length t → all p (drop i t) ≡ true
-spans-all p t i j s e = span-all p (drop i t) (s .rest ∙ drop-of-length-le t {i = j} (omega arith))
-
-pub spans-not : (p : ℕ → Bool) (t : List ℕ) (i j : ℕ) → Spans p t i j → (j ≡ length t → ⊥) → all p (drop i t) ≡ false
-spans-not p t i j s n = not-true _ (λ a. n (omega (arith, s .inside, length-drop j t, ap length (sym (s .rest) ∙ all-span p (drop i t) a))))
 
 -- ZEROS.
 unfoldable pub zeroFrom : ℕ → List ℕ → List ℕ

@@ -9,8 +9,9 @@ use native.Mathlib.Omega.{arith}
 use lib.Dec.{eqb}
 use lib.ListN.{length, take, drop, getD, drop-of-length-le, length-drop}
 use lib.Seq.{drop-cons, drop-drop, take-all, take-suc}
-use borrow.Author.Tests.{eq-eqb, ne-eqb}
-use Rattle.rules.specs.Reader.{Reader, span, sees, skip, prefix, mark}
+use borrow.Author.Tests.{eq-eqb, ne-eqb, eqb-true, eqb-false}
+use Rattle.rules.specs.Reader.{Reader, all, span, sees, skip, prefix, mark}
+use Rattle.rules.specs.Laws.Bool.{and-l, and-r, and-i}
 use Rattle.scan.specs.Sets.{Spans, Sees, Starts, Skips}
 
 module _ (p : ℕ → Bool) (t : List ℕ) (i : ℕ) where
@@ -124,3 +125,41 @@ module _ {m t : List ℕ} {i : ℕ} {r : Bool} (s : Starts m t i r) where
 
   pub mark-no : r ≡ false → mark m (drop i t) ≡ (false, drop i t)
   mark-no e = mark-of m (drop i t) false (s .says ∙ e)
+
+-- All bytes to the end.
+none-all : (p : ℕ → Bool) (x : ℕ) (xs : List ℕ) (c : Bool) → p x ≡ c → span p (x ∷ xs) .1 ≡ [] → (span p xs .1 ≡ [] → all p xs ≡ true) → all p (x ∷ xs) ≡ true
+unfolding span all
+none-all p x xs true q h ih = and-i (p x) (all p xs) q (ih (rw (q, span) at h))
+none-all p x xs false q h ih = let z : x ∷ xs ≡ [] = rw (q, span) at h in let o : _≡_ {A = ℕ} 0 1 = cc in absurd (omega arith)
+
+pub span-all : (p : ℕ → Bool) (t : List ℕ) → span p t .1 ≡ [] → all p t ≡ true
+unfolding span all
+span-all p [] h = refl
+span-all p (x ∷ xs) h = none-all p x xs (p x) refl h (span-all p xs)
+
+all-none : (p : ℕ → Bool) (x : ℕ) (xs : List ℕ) → all p (x ∷ xs) ≡ true → span p xs .1 ≡ [] → span p (x ∷ xs) .1 ≡ []
+unfolding span all
+all-none p x xs h ih = rw (and-l (p x) (all p xs) h, span) ih
+
+pub all-span : (p : ℕ → Bool) (t : List ℕ) → all p t ≡ true → span p t .1 ≡ []
+unfolding span all
+all-span p [] h = refl
+all-span p (x ∷ xs) h = all-none p x xs h (all-span p xs (and-r (p x) (all p xs) h))
+
+not-true : (c : Bool) → (c ≡ true → ⊥) → c ≡ false
+not-true true h = absurd (h refl)
+not-true false h = refl
+
+pub spans-all : (p : ℕ → Bool) (t : List ℕ) (i j : ℕ) → Spans p t i j → j ≡ length t → all p (drop i t) ≡ true
+spans-all p t i j s e = span-all p (drop i t) (s .rest ∙ drop-of-length-le t {i = j} (omega arith))
+
+pub spans-not : (p : ℕ → Bool) (t : List ℕ) (i j : ℕ) → Spans p t i j → (j ≡ length t → ⊥) → all p (drop i t) ≡ false
+spans-not p t i j s n = not-true _ (λ a. n (omega (arith, s .inside, length-drop j t, ap length (sym (s .rest) ∙ all-span p (drop i t) a))))
+
+-- What a comparison of the end with the length says.
+pub all-says : (p : ℕ → Bool) (t : List ℕ) (j : ℕ) → Spans p t 0 j → eqb j (length t) ≡ all p t
+all-says p t j s = go (eqb j (length t)) refl
+  where
+    go : (c : Bool) → eqb j (length t) ≡ c → c ≡ all p t
+    go true e = sym (spans-all p t 0 j s (eqb-true j (length t) e))
+    go false e = sym (spans-not p t 0 j s (eqb-false j (length t) e))

@@ -2,6 +2,7 @@
 ghost use mathlib.Core.Path.{_≡_};
 ghost use Prim.Native.Nat.{_≤_};
 ghost use lib.ListN.{length};
+ghost use Rattle.rules.specs.Reader.{all};
 ghost use Rattle.scan.specs.Sets.{member, byteIs, Spans, Sees, Starts, Skips};
 
 // The sets of bytes that are scanned for; `member` of specs/Sets says what each holds.
@@ -72,6 +73,13 @@ pub fn span(text: &[u8], at: usize, set: Set) -> usize
         i += 1;
     }
     i
+}
+
+// Are all bytes of the set?
+pub fn all(text: &[u8], set: Set) -> bool
+    ensures { λ r. ⌜ r ≡ all (member set) (now (text .entry)) ⌝ }
+{
+    span(text, 0, set) == text.len()
 }
 
 // Is there a byte of the set at a place?

@@ -4,3 +4,7 @@ pub mod Items
 pub mod Order
 pub mod Find
 pub mod Look
+pub mod Check
+pub mod Place
+pub mod Moves
+pub mod Write

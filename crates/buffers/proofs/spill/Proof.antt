@@ -6,7 +6,7 @@ use Rattle.buffers.proofs.spill.Lts as lts
 use Rattle.scan.proofs.span.Reads as span-reads
 use mathlib.Core.Path.{_≡_, refl, sym, ap, _∙_}
 use Rattle.buffers.specs.Put.{spill}
-use Rattle.buffers.specs.Laws.{spans-all, spans-not}
+use Rattle.scan.specs.Laws.{spans-all, spans-not}
 
 span-requires : tie.Need-span-requires
 span-requires c κs = search needs

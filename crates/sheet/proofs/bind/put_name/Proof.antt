@@ -1,0 +1,66 @@
+use borrow.Author.Needs.{needs}
+use Rattle.sheet.proofs.bind.put_name.Statement.{statement}
+use Rattle.sheet.proofs.bind.put_name.Tie as tie
+use Rattle.sheet.proofs.bind.put_name.Reads as reads
+use Rattle.sheet.proofs.bind.put_name.Lts as lts
+use Rattle.sheet.proofs.lookup.made.Reads as made-reads
+use mathlib.Core.Path.{_≡_, refl, sym, ap, _∙_}
+use Prim.Native.Nat.{ℕ, _≤_, _-_, _+_}
+use native.Mathlib.Nat.{add-zero}
+use lib.ListN.{length, drop, length-set}
+use lib.Seq.{sets}
+use Rattle.sheet.specs.Order.{asked}
+use Rattle.sheet.specs.Write.{name-step, name-end}
+
+abbrev Inv-loop : tie.InvT-loop
+Inv-loop buf₀ at name reference i₀ buf i = (i ≤ length name) × (length buf ≡ length buf₀) × (sets buf (at + i) (drop i (asked reference name)) ≡ sets buf₀ at (asked reference name))
+
+abbrev μ-loop : tie.MeasureT-loop
+μ-loop buf₀ at name reference i₀ buf i = length name - i
+
+loop-holds : tie.Need-loop-holds Inv-loop μ-loop
+loop-holds c = (search needs, refl, simp add-zero refl)
+
+shared-slice-read-made : tie.Need-shared-slice-read-made Inv-loop μ-loop
+shared-slice-read-made c = search needs
+
+made-requires : tie.Need-made-requires Inv-loop μ-loop
+made-requires c κs = search needs
+
+add-buf : tie.Need-add-buf Inv-loop μ-loop
+add-buf c = search needs
+
+slice-write-buf : tie.Need-slice-write-buf Inv-loop μ-loop
+slice-write-buf c = search needs
+
+add-i : tie.Need-add-i Inv-loop μ-loop
+add-i c = search needs
+
+loop-less : tie.Need-loop-less Inv-loop μ-loop
+loop-less c = search needs
+
+loop-again : tie.Need-loop-again Inv-loop μ-loop
+loop-again c = (search needs, simp length-set (search needs), name-step _ (c .before .before .before .before .before .before .args .at) (c .before .before .before .loop .i) (c .before .before .before .before .before .before .args .reference) (c .before .before .before .before .before .before .args .name .now) (search needs) (c .made .ensures) ∙ c .before .before .before .loop .inv .2)
+
+same-length : tie.Need-same-length Inv-loop μ-loop
+same-length c = search needs
+
+returns : tie.Need-returns Inv-loop μ-loop
+returns c = sym (name-end _ _ (c .before .loop .i) (c .before .before .before .before .args .reference) (c .before .before .before .before .args .name .now) (search needs)) ∙ c .before .loop .inv .2
+
+pub put-name-spec : {M : Type 1} → statement M
+put-name-spec =
+    tie.close
+    (tie.spec
+    Inv-loop
+    μ-loop
+    loop-holds
+    shared-slice-read-made
+    made-requires
+    add-buf
+    slice-write-buf
+    add-i
+    loop-less
+    loop-again
+    same-length
+    returns)

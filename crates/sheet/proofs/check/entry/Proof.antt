@@ -1,0 +1,35 @@
+use borrow.Author.Needs.{needs}
+use Rattle.sheet.proofs.check.entry.Statement.{statement}
+use Rattle.sheet.proofs.check.entry.Tie as tie
+use Rattle.sheet.proofs.check.entry.Reads as reads
+use Rattle.sheet.proofs.check.entry.Lts as lts
+use Rattle.sheet.proofs.check.suited.Reads as suited-reads
+use Rattle.sheet.proofs.head.read.Reads as read-reads
+use mathlib.Core.Path.{_≡_, sym, _∙_}
+use Rattle.sheet.specs.Check.{in-sheet, enters-broken, enters-in, enters-not}
+
+read-requires : tie.Need-read-requires
+read-requires c κs = c .before .pre .0
+
+enum-known-o : tie.Need-enum-known-o
+enum-known-o c = search needs
+
+enum-told : tie.Need-enum-told
+enum-told c = search needs
+
+returns : tie.Need-returns
+returns c = enters-broken _ _ (c .before .before .read .ensures) _ _ (c .enum-told .given .1)
+
+suited-requires : tie.Need-suited-requires
+suited-requires c κs = (in-sheet _ _ (c .before .before .before .read .ensures) (c .before .o .given .1), c .before .before .before .before .before .pre .1)
+
+returns-2 : tie.Need-returns-2
+returns-2 c = enters-in _ _ (c .before .before .before .before .before .read .ensures) _ _ _ (c .before .before .before .o .given .1) (sym (c .before .suited .ensures) ∙ c .if1 .taken)
+
+returns-3 : tie.Need-returns-3
+returns-3 c = enters-not _ _ (c .before .before .before .before .before .read .ensures) _ _ _ (c .before .before .before .o .given .1) (sym (c .before .suited .ensures) ∙ c .if1 .left)
+
+pub entry-spec : {M : Type 1} → statement M
+entry-spec =
+    tie.close
+    (tie.spec read-requires enum-known-o enum-told returns suited-requires returns-2 returns-3)

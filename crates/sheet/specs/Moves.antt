@@ -1,0 +1,140 @@
+-- Stores and moves inside one list. Assumes nothing.
+use mathlib.Core.Path.{_≡_, refl, sym, ap, _∙_}
+use mathlib.Core.List.{List, [], _∷_, _++_, append-assoc}
+use Prim.Native.Nat.{ℕ, zero, suc, _+_, _-_, _≤_, _<_}
+use native.Mathlib.Numerals.{add-one}
+use native.Mathlib.Nat.{add-zero, sub-zero, suc-sub-suc}
+use native.Mathlib.Omega.{arith}
+use lib.ListN.{length, take, drop, getD, set, length-append, length-drop, length-set}
+use lib.Seq.{sets, sets-eq, length-sets, length-take-le, set-comm, take-set-le, drop-set-lt, take-append-le, take-append-add, take-add, take-take, drop-append-add, drop-drop, take-at}
+use Rattle.buffers.specs.Laws.{sets-append}
+use Rattle.sheet.specs.Parts.{slice, length-slice}
+
+-- The two ways to cut a stretch out.
+pub drop-take : (f t : ℕ) (s : List ℕ) → f ≤ t → drop f (take t s) ≡ slice f t s
+drop-take zero t s h = rw sub-zero refl
+drop-take (suc f) zero s h = absurd (omega arith)
+drop-take (suc f) (suc t) [] h = rw suc-sub-suc (go (t - f))
+  where
+    go : (k : ℕ) → _≡_ {A = List ℕ} [] (take k [])
+    go zero = refl
+    go (suc k) = refl
+drop-take (suc f) (suc t) (x ∷ s) h = rw suc-sub-suc (drop-take f t s (omega arith))
+
+pub slice-take : (a b n : ℕ) (s : List ℕ) → a ≤ b → b ≤ n → slice a b (take n s) ≡ slice a b s
+slice-take a b n s h k = sym (drop-take a b (take n s) h) ∙ ap (drop a) (take-take b n s k) ∙ drop-take a b s h
+
+-- Stores leave what lies before them and behind them.
+take-sets : (t i : ℕ) (y l : List ℕ) → t ≤ i → take t (sets l i y) ≡ take t l
+take-sets t i [] l h = refl
+take-sets t i (v ∷ y) l h = take-sets t (suc i) y (set l i v) (omega arith) ∙ take-set-le t l i v h
+
+drop-sets : (f i : ℕ) (y l : List ℕ) → i + length y ≤ f → drop f (sets l i y) ≡ drop f l
+drop-sets f i [] l h = refl
+drop-sets f i (v ∷ y) l h = drop-sets f (suc i) y (set l i v) (omega arith) ∙ drop-set-lt f l i v (omega arith)
+
+slice-below : (f t i : ℕ) (y l : List ℕ) → f ≤ t → t ≤ i → slice f t (sets l i y) ≡ slice f t l
+slice-below f t i y l h k = sym (drop-take f t (sets l i y) h) ∙ ap (drop f) (take-sets t i y l k) ∙ drop-take f t l h
+
+slice-above : (f t i : ℕ) (y l : List ℕ) → i + length y ≤ f → slice f t (sets l i y) ≡ slice f t l
+slice-above f t i y l h = ap (take (t - f)) (drop-sets f i y l h)
+
+-- And what was stored is there.
+slice-stored : (p q i : ℕ) (y l : List ℕ) → p ≤ q → q ≤ length y → i + length y ≤ length l → slice (i + p) (i + q) (sets l i y) ≡ slice p q y
+slice-stored p q i y l h k g =
+    let z = drop (i + length y) l in
+    let u : length (take i l) ≡ i = length-take-le i l (omega arith) in
+    let a : sets l i y ≡ take i l ++ (y ++ z) = sets-eq y l i g ∙ append-assoc (take i l) y z in
+    let b : drop (i + p) (sets l i y) ≡ drop p (y ++ z) = ap (drop (i + p)) a ∙ ap (λ w. drop (w + p) (take i l ++ (y ++ z))) (sym u) ∙ drop-append-add (take i l) (y ++ z) p in
+    let e : i + q - (i + p) ≡ q - p = omega arith in
+    let c : slice p q (y ++ z) ≡ slice p q y = sym (drop-take p q (y ++ z) h) ∙ ap (drop p) (take-append-le q y z k) ∙ drop-take p q y h in
+    rw e (ap (take (q - p)) b ∙ c)
+
+-- A store in front of another one.
+set-sets : (l : List ℕ) (i j v : ℕ) (y : List ℕ) → i < j → set (sets l j y) i v ≡ sets (set l i v) j y
+set-sets l i j v [] h = refl
+set-sets l i j v (w ∷ y) h = set-sets (set l j w) i (suc j) v y (omega arith) ∙ ap (λ z. sets z (suc j) y) (set-comm l j i w v (λ e. absurd (omega arith)))
+
+pub sets-before : (x y l : List ℕ) (i : ℕ) → sets (sets l (i + length x) y) i x ≡ sets l i (x ++ y)
+sets-before [] y l i = rw add-zero refl
+sets-before (v ∷ x) y l i =
+    let e : i + suc (length x) ≡ suc i + length x = omega arith in
+    ap (λ z. sets z (suc i) x) (set-sets l i (i + suc (length x)) v y (omega arith) ∙ ap (λ j. sets (set l i v) j y) e) ∙ sets-before x y (set l i v) (suc i)
+
+-- What is stored at i, and all that stands before it.
+pub take-stored : (b y : List ℕ) (i m : ℕ) → i + length y ≡ m → m ≤ length b → take m (sets b i y) ≡ take i b ++ y
+take-stored b y i m e h =
+    let z = drop (i + length y) b in
+    let u : length (take i b ++ y) ≡ m = rw length-append (omega (arith, length-take-le i b (omega arith))) in
+    ap (take m) (sets-eq y b i (omega arith)) ∙ take-at (take i b ++ y) z m u
+
+-- ARRANGING: the bytes from a to b at a place, and the tail from `to` to n behind them.
+pub record Arranged (buf : List ℕ) (at a b to n : ℕ) : Type 0 where
+  pub on : a ≤ b
+  pub own : b ≤ n
+  pub tail : to ≤ n
+  pub inside : n ≤ length buf
+  pub room : at + (b - a) + (n - to) ≤ length buf
+
+module _ {buf : List ℕ} {at a b to n : ℕ} (g : Arranged buf at a b to n) where
+  own-long : length (slice a b buf) ≡ b - a
+  own-long = length-slice a b buf (omega (arith, g .own, g .inside))
+
+  tail-long : length (slice to n buf) ≡ n - to
+  tail-long = length-slice to n buf (g .inside)
+
+  -- The bytes first, and then the tail down.
+  pub arrange-down : {c d : List ℕ} → at + (b - a) ≤ to → c ≡ sets buf at (slice a b buf) → d ≡ sets c (at + (b - a)) (slice to n c) → d ≡ sets buf at (slice a b buf ++ slice to n buf)
+  arrange-down {c} {d} h p q =
+      let s : slice to n c ≡ slice to n buf = ap (slice to n) p ∙ slice-above to n at (slice a b buf) buf (omega (arith, own-long)) in
+      q ∙ ap (λ z. sets c (at + (b - a)) z) s ∙ ap (λ z. sets z (at + (b - a)) (slice to n buf)) p
+      ∙ ap (λ z. sets (sets buf at (slice a b buf)) (at + z) (slice to n buf)) (sym own-long) ∙ sets-append buf at (slice a b buf) (slice to n buf)
+
+  -- The tail up, and then the bytes, which lie before it.
+  module _ {c : List ℕ} (h : to < at + (b - a)) (p : c ≡ sets buf (at + (b - a)) (slice to n buf)) where
+    both : (v : List ℕ) → v ≡ slice a b buf → {d : List ℕ} → d ≡ sets c at v → d ≡ sets buf at (slice a b buf ++ slice to n buf)
+    both v e q =
+        q ∙ ap (λ z. sets c at z) e ∙ ap (λ z. sets z at (slice a b buf)) (p ∙ ap (λ z. sets buf (at + z) (slice to n buf)) (sym own-long)) ∙ sets-before (slice a b buf) (slice to n buf) buf at
+
+    pub arrange-below : b ≤ to → {d : List ℕ} → d ≡ sets c at (slice a b c) → d ≡ sets buf at (slice a b buf ++ slice to n buf)
+    arrange-below k q = both (slice a b c) (ap (slice a b) p ∙ slice-below a b (at + (b - a)) (slice to n buf) buf (g .on) (omega arith)) q
+
+    -- Or in it.
+    moved : (x y : ℕ) → to ≤ x → x ≤ y → y ≤ n → slice (x + (at + (b - a) - to)) (y + (at + (b - a) - to)) c ≡ slice x y buf
+    moved x y j k l =
+        let e = at + (b - a) in
+        let i₁ : x + (e - to) ≡ e + (x - to) = omega arith in
+        let i₂ : y + (e - to) ≡ e + (y - to) = omega arith in
+        let z : slice (e + (x - to)) (e + (y - to)) c ≡ slice (x - to) (y - to) (slice to n buf) = ap (slice (e + (x - to)) (e + (y - to))) p ∙ slice-stored (x - to) (y - to) e (slice to n buf) buf (omega arith) (omega (arith, tail-long)) (omega (arith, tail-long, g .room)) in
+        rw (i₁, i₂) (z ∙ slice-slice x y j k l)
+      where
+        slice-slice : (x y : ℕ) → to ≤ x → x ≤ y → y ≤ n → slice (x - to) (y - to) (slice to n buf) ≡ slice x y buf
+        slice-slice x y j k l =
+            let i : to + (x - to) ≡ x = omega arith in
+            let m : y - to - (x - to) ≡ y - x = omega arith in
+            sym (drop-take (x - to) (y - to) (slice to n buf) (omega arith))
+            ∙ ap (drop (x - to)) (take-take (y - to) (n - to) (drop to buf) (omega arith))
+            ∙ drop-take (x - to) (y - to) (drop to buf) (omega arith)
+            ∙ rw (m, drop-drop, i) refl
+
+    pub arrange-above : to ≤ a → {d : List ℕ} → d ≡ sets c at (slice (a + (at + (b - a) - to)) (b + (at + (b - a) - to)) c) → d ≡ sets buf at (slice a b buf ++ slice to n buf)
+    arrange-above k q = both _ (moved a b k (g .on) (g .own)) q
+
+    -- Or on both sides of its start.
+    pub arrange-across : a < to → to < b → {d f : List ℕ} → d ≡ sets c at (slice a to c) → f ≡ sets d (at + (to - a)) (slice (at + (b - a)) (b + (at + (b - a) - to)) d) → f ≡ sets buf at (slice a b buf ++ slice to n buf)
+    arrange-across j k {d} {f} q r =
+        let e = at + (b - a) in
+        let u : slice a to c ≡ slice a to buf = ap (slice a to) p ∙ slice-below a to e (slice to n buf) buf (omega arith) (omega arith) in
+        let w : length (slice a to c) ≡ to - a = length-slice a to c (rw p (rw length-sets (omega (arith, g .tail, g .inside)))) in
+        let i : to + (e - to) ≡ e = omega arith in
+        let v₁ : slice e (b + (e - to)) d ≡ slice e (b + (e - to)) c = ap (slice e (b + (e - to))) q ∙ slice-above e (b + (e - to)) at (slice a to c) c (omega arith) in
+        let v₂ : slice e (b + (e - to)) c ≡ slice to b buf = rw i at (moved to b (omega arith) (omega arith) (g .own)) in
+        let s : slice a to buf ++ slice to b buf ≡ slice a b buf = two (omega arith) (omega arith) in
+        both (slice a to c ++ slice to b buf) (ap (λ z. z ++ slice to b buf) u ∙ s)
+        (r ∙ ap (λ z. sets d (at + (to - a)) z) (v₁ ∙ v₂) ∙ ap (λ z. sets z (at + (to - a)) (slice to b buf)) q ∙ ap (λ z. sets (sets c at (slice a to c)) (at + z) (slice to b buf)) (sym w) ∙ sets-append c at (slice a to c) (slice to b buf))
+      where
+        two : a ≤ to → to ≤ b → slice a to buf ++ slice to b buf ≡ slice a b buf
+        two h k =
+            let i : a + (to - a) ≡ to = omega arith in
+            let m : to - a + (b - to) ≡ b - a = omega arith in
+            sym (sym (ap (λ z. take z (drop a buf)) m) ∙ take-add (to - a) (b - to) (drop a buf) ∙ rw (drop-drop, i) refl)

@@ -1,0 +1,481 @@
+-- Writing a record into a sheet's buffer.
+use mathlib.Core.Path.{_≡_, refl, sym, ap, subst, _∙_}
+use mathlib.Core.Bool.{Bool, true, false, cond, _||_}
+use mathlib.Core.List.{List, [], _∷_, _++_, append-assoc}
+use mathlib.Core.Logic.{⊎-elim, _⊎_, inl, inr}
+use mathlib.Core.Option.{Option, none, some}
+use Prim.Native.Nat.{ℕ, zero, suc, _+_, _-_, _*_, _/_, _%_, _≤_, _<_}
+use native.Mathlib.Numerals.{add-one}
+use native.Mathlib.Nat.{add-zero, le-refl}
+use native.Mathlib.Omega.{arith}
+use lib.Bits.{bitAnd, bitOr}
+use lib.Dec.{eqb, ltb}
+use lib.ListN.{set as put, length, take, drop, getD, length-append, length-take, length-drop, drop-of-length-le}
+use lib.Seq.{drop-cons, sets, sets-eq, take-at, drop-at, take-append-add, take-all, take-take, take-append-le, length-sets, length-take-le}
+use borrow.Author.Tests.{eq-eqb, ne-eqb, ltb-true, ltb-false}
+use Rattle.buffers.specs.Laws.{sets-append}
+use Rattle.rules.specs.Bytes.{less}
+use Rattle.rules.specs.Laws.Bool.{or-elim, or-false-l, or-false-r}
+use Rattle.rules.specs.Sheet.{Value, text, nothing, dictionary, Records, end, rec, encode, count, word16Bytes, fieldBytes, fieldBit, valueBytes, valueBit, set}
+use Rattle.sheet.specs.Parts.{Part, slice, part-slice, length-slice, append-nil}
+use Rattle.sheet.specs.Moves.{drop-take, slice-take, sets-before, take-stored}
+use Rattle.sheet.specs.Items.{count-le}
+use Rattle.sheet.specs.Order.{made, asked, asked-length, asked-getD}
+use Rattle.sheet.specs.Find.{Gives}
+use Rattle.sheet.specs.Place.{HasRecords, Placed, one, one-rec}
+use Rattle.sheet.specs.declared.bind.Bound.{Bound}
+use Rattle.sheet.specs.declared.bind.Bound.the-variants.{Over, Length}
+use Rattle.sheet.specs.declared.bind.Room.{Room}
+use Rattle.sheet.specs.declared.bind.Source.{Source}
+use Rattle.sheet.specs.declared.lookup.Found.{Found}
+use Rattle.sheet.specs.declared.lookup.Found.the-variants.{Missing, None, Text, Dictionary}
+use Rattle.sheet.specs.declared.bind.Plan.{Plan}
+use Rattle.sheet.specs.declared.bind.Plan.the-variants.{Over as TooLong, Fits}
+
+-- Bytes of a field of a length, with its length.
+unfoldable pub wide : ℕ → ℕ
+wide n = cond (eqb n 0) 0 (2 + n)
+
+-- A text and a dictionary begin with a number: its length, its count.
+unfoldable pub numbered : ℕ → Bool
+numbered bit = eqb bit 2 || eqb bit 4
+
+unfoldable pub number : ℕ → ℕ → List ℕ
+number bit size = cond (numbered bit) (word16Bytes size) []
+
+-- A record of the name up to its value's own bytes, and how many that are.
+unfoldable pub opening : List ℕ → ℕ → ℕ → List ℕ
+opening n bit size = (fieldBit 1 n + bit) ∷ (fieldBytes n ++ number bit size)
+
+unfoldable pub openLen : ℕ → ℕ → ℕ
+openLen n bit = 1 + wide n + cond (numbered bit) 2 0
+
+-- A value's bit.
+pub record IsBit (bit : ℕ) : Type 0 where
+  pub v : Value
+  pub is : valueBit v ≡ bit
+
+-- The value v has this bit, this number and these bytes of its own.
+pub record IsSource (v : Value) (bit size : ℕ) (own : List ℕ) : Type 0 where
+  pub sort : valueBit v ≡ bit
+  pub bytes : valueBytes v ≡ number bit size ++ own
+  pub small : size ≤ length own
+
+-- A place for a record of the name with so many bytes of its own, in a sheet that may have l bytes.
+pub record Fitting (s : List ℕ) (l : ℕ) (name : List ℕ) (bit len : ℕ) (p : Room) : Type 0 where
+  pub placed : (r : Records) → s ≡ encode r → Placed s r name (p .from) (p .to)
+  pub head : p .head ≡ openLen (length name) bit
+  pub total : p .total ≡ p .from + p .head + len + (length s - p .to)
+  pub fits : p .total ≤ l
+  pub short : length name ≤ l
+  pub small : len ≤ l
+
+unfoldable pub Plans : List ℕ → ℕ → List ℕ → ℕ → ℕ → Plan → Type 0
+Plans s l name bit len TooLong = (r : Records) (v : Value) (size : ℕ) (own : List ℕ) → s ≡ encode r → IsSource v bit size own → length own ≡ len → l < length (encode (set r name v))
+Plans s l name bit len (Fits p) = Fitting s l name bit len p
+
+-- There is such a value, and a found one.
+pub record HasSource (bit size : ℕ) (own : List ℕ) : Type 0 where
+  pub v : Value
+  pub is : IsSource v bit size own
+
+pub record IsThere (s : List ℕ) (f : Found) : Type 0 where
+  pub v : Value
+  pub gives : Gives s (some v) f
+
+-- The source o tells of the value v by places of s.
+pub record Sources (s : List ℕ) (v : Value) (o : Source) : Type 0 where
+  pub on : o .from ≤ o .to
+  pub inside : o .to ≤ length s
+  pub is : IsSource v (o .bit) (o .size) (slice (o .from) (o .to) s)
+
+-- There is room for an opening.
+pub record Opens (b : List ℕ) (at n bit size : ℕ) : Type 0 where
+  pub sort : IsBit bit
+  pub short : n ≤ 65535
+  pub small : size ≤ 65535
+  pub room : at + openLen n bit ≤ length b
+
+-- The map byte of a name of n bytes.
+unfoldable pub mapNo : ℕ → ℕ → ℕ
+mapNo n bit = cond (eqb n 0) 0 1 + bit
+
+-- The first n bytes of a buffer are a sheet's records, and it may grow up to `limit`.
+pub record Bindable (b : List ℕ) (n limit : ℕ) : Type 0 where
+  pub inside : n ≤ length b
+  pub room : limit ≤ length b
+  pub small : limit ≤ 65535
+  pub sheet : HasRecords (take n b)
+
+-- What a binding leaves: more than l bytes, or x in the first m of b.
+unfoldable pub Leaves : List ℕ → ℕ → List ℕ → Bound → Type 0
+Leaves b l x Over = l < length x
+Leaves b l x (Length m) = (m ≤ l) × (m ≡ length x) × (take m b ≡ x)
+
+-- The name is bound to v, or the sheet would be too long; the buffer's length stays.
+pub record BindsTo (b : List ℕ) (n limit : ℕ) (name : List ℕ) (v : Value) (c : List ℕ) (o : Bound) : Type 0 where
+  pub long : length c ≡ length b
+  pub leaves : (r : Records) → take n b ≡ encode r → Leaves c limit (encode (set r name v)) o
+
+unfoldable pub Binds : List ℕ → ℕ → ℕ → List ℕ → ℕ → ℕ → List ℕ → List ℕ → Bound → Type 0
+Binds b n limit name bit size own c o = (v : Value) → IsSource v bit size own → BindsTo b n limit name v c o
+
+-- LAWS.
+pub wide-zero : (n : ℕ) → n ≡ 0 → wide n ≡ 0
+unfolding wide
+wide-zero n h = rw (eq-eqb n 0 h) refl
+
+pub wide-some : (n : ℕ) → (n ≡ 0 → ⊥) → wide n ≡ 2 + n
+unfolding wide
+wide-some n h = rw (ne-eqb n 0 h) refl
+
+pub wide-le : (n : ℕ) → n ≤ wide n
+unfolding wide
+wide-le zero = omega arith
+wide-le (suc n) = rw (ne-eqb (suc n) 0 (λ e. omega arith)) (omega arith)
+
+pub wide-ge : (n : ℕ) → wide n ≤ 2 + n
+unfolding wide
+wide-ge zero = omega arith
+wide-ge (suc n) = rw (ne-eqb (suc n) 0 (λ e. omega arith)) (omega arith)
+
+field-length : (t : List ℕ) → length (fieldBytes t) ≡ wide (length t)
+unfolding fieldBytes word16Bytes
+field-length [] = sym (wide-zero 0 refl)
+field-length (x ∷ xs) = omega (arith, wide-some (suc (length xs)) (λ e. omega arith))
+
+number-length : (bit size : ℕ) → length (number bit size) ≡ cond (numbered bit) 2 0
+unfolding number word16Bytes
+number-length bit size = go (numbered bit)
+  where
+    go : (c : Bool) → length (cond c (size % 256 ∷ size / 256 ∷ []) []) ≡ cond c 2 0
+    go true = refl
+    go false = refl
+
+pub opening-length : (n : List ℕ) (bit size : ℕ) → length (opening n bit size) ≡ openLen (length n) bit
+unfolding opening openLen
+opening-length n bit size = omega (arith, length-append (fieldBytes n) (number bit size), field-length n, number-length bit size)
+
+pub open-le : (n bit : ℕ) → openLen n bit ≤ n + 5
+unfolding openLen
+open-le n bit = go (numbered bit) (wide-ge n)
+  where
+    go : (c : Bool) → wide n ≤ 2 + n → 1 + wide n + cond c 2 0 ≤ n + 5
+    go true h = omega arith
+    go false h = omega arith
+
+open-ge : (n bit : ℕ) → n ≤ openLen n bit
+unfolding openLen
+open-ge n bit = omega (arith, wide-le n)
+
+-- What `opening_len` computes.
+numbered-is : (v : Value) → (bitAnd (valueBit v) 6 ≡ 0 → numbered (valueBit v) ≡ false) × ((bitAnd (valueBit v) 6 ≡ 0 → ⊥) → numbered (valueBit v) ≡ true)
+unfolding valueBit fieldBit numbered
+numbered-is (text []) = (λ e. refl, λ e. absurd (e refl))
+numbered-is (text (x ∷ xs)) = (λ e. absurd (omega arith), λ e. refl)
+numbered-is nothing = (λ e. refl, λ e. absurd (e refl))
+numbered-is (dictionary r) = (λ e. absurd (omega arith), λ e. refl)
+
+module _ {bit : ℕ} (b : IsBit bit) where
+  pub unnumbered : bitAnd bit 6 ≡ 0 → numbered bit ≡ false
+  unnumbered = rw (b .is) at (numbered-is (b .v) .0)
+
+  pub is-numbered : (bitAnd bit 6 ≡ 0 → ⊥) → numbered bit ≡ true
+  is-numbered = rw (b .is) at (numbered-is (b .v) .1)
+
+  module _ (name : ℕ) {n : ℕ} (h : n ≡ wide name) where
+    pub open-plain : bitAnd bit 6 ≡ 0 → 1 + n ≡ openLen name bit
+    unfolding openLen
+    open-plain e = rw (unnumbered e) (omega arith)
+
+    pub open-numbered : (bitAnd bit 6 ≡ 0 → ⊥) → 1 + n + 2 ≡ openLen name bit
+    unfolding openLen
+    open-numbered e = rw (is-numbered e) (omega arith)
+
+-- One record is its opening and the value's own bytes.
+one-opening : (n : List ℕ) (v : Value) (bit size : ℕ) (own : List ℕ) → IsSource v bit size own → one n v ≡ opening n bit size ++ own
+unfolding one opening
+one-opening n v bit size own s = rw (s .sort, s .bytes) (simp append-assoc)
+
+-- How long the sheet becomes.
+module _ {s : List ℕ} {r : Records} {name : List ℕ} {i j : ℕ} (p : Placed s r name i j) (v : Value) {bit size : ℕ} {own : List ℕ} (w : IsSource v bit size own) where
+  pub set-length : length (encode (set r name v)) ≡ i + openLen (length name) bit + length own + (length s - j)
+  set-length =
+      rw (p .is v, one-opening name v bit size own w)
+      (simp length-append (omega (arith, opening-length name bit size, length-drop j s, length-take-le i s (omega (arith, p .on, p .inside)))))
+
+  pub set-long : openLen (length name) bit + length own ≤ length (encode (set r name v))
+  set-long = omega (arith, set-length)
+
+-- A binding is no shorter than its record.
+set-size-at : (n m : List ℕ) (v w : Value) (r : Records) (c d : Bool) → less n m ≡ c → less m n ≡ d → length (one n v) ≤ length (encode (set r n v)) → length (one n v) ≤ length (encode (set (rec m w r) n v))
+unfolding set
+set-size-at n m v w r true d p q h = rw (p, set, one-rec n v (rec m w r), length-append) (omega arith)
+set-size-at n m v w r false true p q h = rw (p, q, set, one-rec m w (set r n v), length-append) (omega arith)
+set-size-at n m v w r false false p q h = rw (p, q, set, one-rec n v r, length-append) (omega arith)
+
+set-size : (r : Records) (n : List ℕ) (v : Value) → length (one n v) ≤ length (encode (set r n v))
+unfolding set
+set-size end n v = rw (one-rec n v end, length-append) (omega arith)
+set-size (rec m w r) n v = set-size-at n m v w r (less n m) (less m n) refl refl (set-size r n v)
+
+-- What `find_room` answers.
+pub plans-long : (s : List ℕ) (l : ℕ) (b : Bool) (name : List ℕ) (bit len : ℕ) → (ltb l (length name) || ltb l len) ≡ true → Plans s l (asked b name) bit len TooLong
+unfolding Plans
+plans-long s l b name bit len h r v size own e w k =
+    let z = set-size r (asked b name) v in
+    let y : length (one (asked b name) v) ≡ openLen (length name) bit + len = ap length (one-opening (asked b name) v bit size own w) ∙ length-append (opening (asked b name) bit size) own ∙ omega (arith, opening-length (asked b name) bit size, k, ap (λ x. openLen x bit) (asked-length b name)) in
+    or-elim (ltb l (length name)) (ltb l len) h (λ g. omega (arith, ltb-true l (length name) g, open-ge (length name) bit)) (λ g. omega (arith, ltb-true l len g))
+
+module _ (s : List ℕ) (l : ℕ) (b : Bool) (name : List ℕ) (bit len : ℕ) {i j h m : ℕ}
+    (p : (r : Records) → s ≡ encode r → Placed s r (asked b name) i j) (e : h ≡ openLen (length name) bit) (f : m ≡ i + h + len + (length s - j)) where
+  pub plans-over : l < m → Plans s l (asked b name) bit len TooLong
+  unfolding Plans
+  plans-over g r v size own q w k = omega (arith, set-length (p r q) v w, ap (λ x. openLen x bit) (asked-length b name))
+
+  pub plans-fits : m ≤ l → (ltb l (length name) || ltb l len) ≡ false → Plans s l (asked b name) bit len (Fits (record { from = i; to = j; head = h; total = m }))
+  unfolding Plans
+  plans-fits g z = record {
+    placed = p;
+    head = e ∙ ap (λ x. openLen x bit) (sym (asked-length b name));
+    total = f;
+    fits = g;
+    short = omega (arith, asked-length b name, ltb-false l (length name) (or-false-l (ltb l (length name)) (ltb l len) z));
+    small = ltb-false l len (or-false-r (ltb l (length name)) (ltb l len) z);
+  }
+
+-- WRITING.
+-- One byte more of a name.
+pub name-step : (b : List ℕ) (at i : ℕ) (f : Bool) (t : List ℕ) {x : ℕ} → i < length t → x ≡ made f (getD t i 0) → sets (put b (at + i) x) (at + (i + 1)) (drop (i + 1) (asked f t)) ≡ sets b (at + i) (drop i (asked f t))
+name-step b at i f t h e =
+    let u : at + (i + 1) ≡ suc (at + i) = omega arith in
+    let v : drop i (asked f t) ≡ made f (getD t i 0) ∷ drop (suc i) (asked f t) = drop-cons (asked f t) i 0 (omega (arith, asked-length f t)) ∙ ap (λ z. z ∷ drop (suc i) (asked f t)) (asked-getD f t i h) in
+    rw (u, add-one, v, e) refl
+
+pub name-end : (b : List ℕ) (at i : ℕ) (f : Bool) (t : List ℕ) → length t ≤ i → sets b at (drop i (asked f t)) ≡ b
+name-end b at i f t h = rw (drop-of-length-le (asked f t) {i = i} (omega (arith, asked-length f t))) refl
+
+field-empty : (t : List ℕ) → length t ≡ 0 → fieldBytes t ≡ []
+unfolding fieldBytes
+field-empty [] h = refl
+field-empty (x ∷ xs) h = absurd (omega arith)
+
+field-full : (t : List ℕ) → (length t ≡ 0 → ⊥) → fieldBytes t ≡ word16Bytes (length t) ++ t
+unfolding fieldBytes
+field-full [] h = absurd (h refl)
+field-full (x ∷ xs) h = refl
+
+pub field-none : (b : List ℕ) (at : ℕ) (f : Bool) (t : List ℕ) → length t ≡ 0 → b ≡ sets b at (fieldBytes (asked f t))
+field-none b at f t h = rw (field-empty (asked f t) (asked-length f t ∙ h)) refl
+
+pub field-some : (b : List ℕ) (at : ℕ) (f : Bool) (t : List ℕ) {c d : List ℕ} → (length t ≡ 0 → ⊥) → c ≡ sets b at (word16Bytes (length t)) → d ≡ sets c (at + 2) (asked f t) → d ≡ sets b at (fieldBytes (asked f t))
+unfolding word16Bytes
+field-some b at f t {c} {d} h p q =
+    let e : fieldBytes (asked f t) ≡ word16Bytes (length t) ++ asked f t = field-full (asked f t) (λ z. h (sym (asked-length f t) ∙ z)) ∙ ap (λ z. word16Bytes z ++ asked f t) (asked-length f t) in
+    q ∙ ap (λ z. sets z (at + 2) (asked f t)) p ∙ sets-append b at (word16Bytes (length t)) (asked f t) ∙ ap (sets b at) (sym e)
+
+pub map-plain : (n bit : ℕ) → n ≡ 0 → bit ≡ mapNo n bit
+unfolding mapNo
+map-plain n bit h = rw (eq-eqb n 0 h) (omega arith)
+
+named-bit : (v : Value) → bitOr (valueBit v) 1 ≡ 1 + valueBit v
+unfolding valueBit fieldBit
+named-bit (text []) = refl
+named-bit (text (x ∷ xs)) = refl
+named-bit nothing = refl
+named-bit (dictionary r) = refl
+
+pub map-named : (n : ℕ) {bit : ℕ} → IsBit bit → (n ≡ 0 → ⊥) → bitOr bit 1 ≡ mapNo n bit
+unfolding mapNo
+map-named n {bit} b h = rw (ne-eqb n 0 h) (rw (b .is) at (named-bit (b .v)))
+
+pub short-of : (l a b : ℕ) → (ltb l a || ltb l b) ≡ false → (a ≤ l) × (b ≤ l)
+short-of l a b h = (ltb-false l a (or-false-l (ltb l a) (ltb l b) h), ltb-false l b (or-false-r (ltb l a) (ltb l b) h))
+
+-- The map byte, the name and the number, one behind the other.
+map-no : (n : List ℕ) (bit : ℕ) → mapNo (length n) bit ≡ fieldBit 1 n + bit
+unfolding mapNo fieldBit
+map-no [] bit = refl
+map-no (x ∷ xs) bit = rw (ne-eqb (suc (length xs)) 0 (λ e. omega arith)) refl
+
+module _ (b : List ℕ) (at : ℕ) (f : Bool) (t : List ℕ) {bit : ℕ} (g : IsBit bit) (size : ℕ) {m : ℕ} {c : List ℕ} (e : m ≡ mapNo (length t) bit) (p : c ≡ sets (put b at m) (at + 1) (fieldBytes (asked f t))) where
+  begun : c ≡ sets b at ((fieldBit 1 (asked f t) + bit) ∷ fieldBytes (asked f t))
+  begun = p ∙ ap (λ z. sets (put b at z) (at + 1) (fieldBytes (asked f t))) (e ∙ ap (λ z. mapNo z bit) (sym (asked-length f t)) ∙ map-no (asked f t) bit) ∙ rw add-one refl
+
+  pub opening-plain : bitAnd bit 6 ≡ 0 → c ≡ sets b at (opening (asked f t) bit size)
+  unfolding opening number
+  opening-plain h = begun ∙ rw (unnumbered g h, append-nil (fieldBytes (asked f t))) refl
+
+  pub opening-numbered : (bitAnd bit 6 ≡ 0 → ⊥) → {k : ℕ} {d : List ℕ} → k ≡ wide (length t) → d ≡ sets c (at + 1 + k) (word16Bytes size) → d ≡ sets b at (opening (asked f t) bit size)
+  unfolding opening number
+  opening-numbered h {k} {d} w q =
+      let x = (fieldBit 1 (asked f t) + bit) ∷ fieldBytes (asked f t) in
+      let l : at + 1 + k ≡ at + length x = omega (arith, field-length (asked f t), ap wide (asked-length f t)) in
+      q ∙ ap (λ z. sets c z (word16Bytes size)) l ∙ ap (λ z. sets z (at + length x) (word16Bytes size)) begun ∙ sets-append b at x (word16Bytes size) ∙ rw (is-numbered g h) refl
+
+-- What a lookup found.
+pub text-empty : (t : List ℕ) → length t ≡ 0 → IsSource (text t) 0 0 t
+unfolding valueBit valueBytes fieldBit fieldBytes number numbered
+text-empty [] h = record { sort = refl; bytes = refl; small = omega arith }
+text-empty (x ∷ xs) h = absurd (omega arith)
+
+pub text-full : (t : List ℕ) → (length t ≡ 0 → ⊥) → IsSource (text t) 2 (length t) t
+unfolding valueBit valueBytes fieldBit fieldBytes number numbered
+text-full [] h = absurd (h refl)
+text-full (x ∷ xs) h = record { sort = refl; bytes = refl; small = omega arith }
+
+pub none-source : IsSource nothing 8 0 []
+unfolding valueBit valueBytes number numbered
+none-source = record { sort = refl; bytes = refl; small = omega arith }
+
+dictionary-source : (d : Records) {n : ℕ} → count d ≡ n → IsSource (dictionary d) 4 n (encode d)
+unfolding valueBit valueBytes number numbered
+dictionary-source d e = record { sort = refl; bytes = rw (← e) refl; small = omega (arith, count-le d) }
+
+some-eq : (v w : Value) → some v ≡ some w → v ≡ w
+some-eq v w h = cc
+
+-- What `source_of` answers.
+module _ (s : List ℕ) (v : Value) {f : Found} (w : Gives s (some v) f) where
+  pub source-missing : {P : Type 0} → f ≡ Missing → P
+  unfolding Gives
+  source-missing e = let g : some v ≡ none = rw e at w in let z : _≡_ {A = ℕ} 0 1 = cc g in absurd (omega arith)
+
+  pub source-none : f ≡ None → Sources s v (record { bit = 8; from = 0; to = 0; size = 0 })
+  unfolding Gives
+  source-none h =
+      let g : some v ≡ some nothing = rw h at w in
+      record { on = omega arith; inside = omega arith; is = rw (some-eq v nothing g) none-source }
+
+  module _ {a b : ℕ} (h : f ≡ Text a b) where
+    there : Gives s (some v) (Text a b)
+    there = rw h at w
+
+    pub source-blank : b ≤ a → Sources s v (record { bit = 0; from = a; to = b; size = 0 })
+    unfolding Gives
+    source-blank k =
+        let p = there .2 in
+        record { on = omega (arith, p .ends); inside = p .inside; is = rw (some-eq v (text (there .0)) (there .1), part-slice p) (text-empty (there .0) (omega (arith, p .ends))) }
+
+    pub source-text : a < b → Sources s v (record { bit = 2; from = a; to = b; size = b - a })
+    unfolding Gives
+    source-text k =
+        let p = there .2 in
+        let l : b - a ≡ length (there .0) = omega (arith, p .ends) in
+        record { on = omega arith; inside = p .inside; is = rw (some-eq v (text (there .0)) (there .1), part-slice p, l) (text-full (there .0) (λ z. omega (arith, p .ends))) }
+
+  pub source-dictionary : {a b n : ℕ} → f ≡ Dictionary a b n → Sources s v (record { bit = 4; from = a; to = b; size = n })
+  unfolding Gives
+  source-dictionary {a} {b} {n} h =
+      let g : Gives s (some v) (Dictionary a b n) = rw h at w in
+      let p = g .2 in
+      record { on = omega (arith, p .ends); inside = p .inside; is = rw (some-eq v (dictionary (g .0)) (g .1), part-slice p) (dictionary-source (g .0) (g .3)) }
+
+pub open-wide : (n bit : ℕ) → 1 + wide n ≤ openLen n bit
+unfolding openLen
+open-wide n bit = omega arith
+
+-- The numbers of a place that fits.
+pub record Bounds (n l long bit len : ℕ) (p : Room) : Type 0 where
+  pub on : p .from ≤ p .to
+  pub inside : p .to ≤ n
+  pub small : openLen long bit ≤ long + 5
+  pub sum : p .from + p .head + len + (n - p .to) ≤ l
+  pub head : p .head ≡ openLen long bit
+  pub short : long ≤ l
+  pub own : len ≤ l
+
+-- THE END: the opening, the value's own bytes and the tail stand where they should.
+module _ {b : List ℕ} {n l : ℕ} (g : Bindable b n l) {name : List ℕ} {bit len : ℕ} {p : Room} (f : Fitting (take n b) l name bit len p) where
+  sheet-long : length (take n b) ≡ n
+  sheet-long = length-take-le n b (g .inside)
+
+  spotted : Placed (take n b) (g .sheet .r) name (p .from) (p .to)
+  spotted = f .placed (g .sheet .r) (g .sheet .bytes)
+
+  pub bounds : Bounds n l (length name) bit len p
+  bounds = record {
+    on = spotted .on;
+    inside = omega (arith, spotted .inside, sheet-long);
+    small = open-le (length name) bit;
+    sum = omega (arith, f .total, f .fits, sheet-long);
+    head = f .head;
+    short = f .short;
+    own = f .small;
+  }
+
+  module _ (size : ℕ) (own : List ℕ) (k : length own ≡ len) where
+    total-is : p .from + length (opening name bit size ++ (own ++ slice (p .to) n b)) ≡ p .total
+    total-is =
+        let z = length-slice (p .to) n b (g .inside) in
+        rw (length-append, length-append) (omega (arith, z, opening-length name bit size, f .total, f .head, k, sheet-long))
+
+    pub bound-in : (v : Value) → IsSource v bit size own → (c : List ℕ) → c ≡ sets b (p .from) (opening name bit size ++ (own ++ slice (p .to) n b)) → BindsTo b n l name v c (Length (p .total))
+    unfolding Leaves
+    bound-in v w c e =
+        record {
+          long = ap length e ∙ length-sets b (p .from) (opening name bit size ++ (own ++ slice (p .to) n b));
+          leaves = λ r q.
+              let d = f .placed r q in
+              let t : drop (p .to) (take n b) ≡ slice (p .to) n b = drop-take (p .to) n b (omega (arith, d .inside, sheet-long)) in
+              let u : take (p .from) (take n b) ≡ take (p .from) b = take-take (p .from) n b (omega (arith, d .on, d .inside, sheet-long)) in
+              let x : encode (set r name v) ≡ take (p .from) b ++ (opening name bit size ++ (own ++ slice (p .to) n b)) = d .is v ∙ rw (u, t, one-opening name v bit size own w, append-assoc) refl in (
+                f .fits,
+                omega (arith, set-length d v w, f .total, f .head, k),
+                ap (take (p .total)) e ∙ take-stored b (opening name bit size ++ (own ++ slice (p .to) n b)) (p .from) (p .total) total-is (omega (arith, f .fits, g .room)) ∙ sym x,
+              );
+        }
+
+    pub bound-found : {d e : List ℕ} → d ≡ sets b (p .from + p .head) (own ++ slice (p .to) n b) → e ≡ sets d (p .from) (opening name bit size) →
+        e ≡ sets b (p .from) (opening name bit size ++ (own ++ slice (p .to) n b))
+    bound-found i z =
+        let l : p .head ≡ length (opening name bit size) = f .head ∙ sym (opening-length name bit size) in
+        z ∙ ap (λ w. sets w (p .from) (opening name bit size)) (i ∙ ap (λ w. sets b (p .from + w) (own ++ slice (p .to) n b)) l) ∙ sets-before (opening name bit size) (own ++ slice (p .to) n b) b (p .from)
+
+    -- The tail, the value's own bytes, the opening.
+    pub bound-slice : {c d e : List ℕ} → c ≡ sets b (p .from + p .head + len) (slice (p .to) n b) → d ≡ sets c (p .from + p .head) own → e ≡ sets d (p .from) (opening name bit size) →
+        e ≡ sets b (p .from) (opening name bit size ++ (own ++ slice (p .to) n b))
+    bound-slice {c} {d} {e} x y z =
+        let i : d ≡ sets b (p .from + p .head) (own ++ slice (p .to) n b) = y ∙ ap (λ w. sets w (p .from + p .head) own) (x ∙ ap (λ w. sets b (p .from + p .head + w) (slice (p .to) n b)) (sym k)) ∙ sets-before own (slice (p .to) n b) b (p .from + p .head) in
+        bound-found i z
+
+-- By what `find_room` answers.
+module _ {b : List ℕ} {n l : ℕ} (g : Bindable b n l) (t : Bool) (name : List ℕ) (bit len : ℕ) {q : Plan} (f : Plans (take n b) l (asked t name) bit len q) where
+  pub bound-over : q ≡ TooLong → {size : ℕ} {own : List ℕ} → length own ≡ len → (v : Value) → IsSource v bit size own → BindsTo b n l (asked t name) v b Over
+  unfolding Plans Leaves
+  bound-over e k v w =
+      let z : Plans (take n b) l (asked t name) bit len TooLong = rw e at f in
+      record { long = refl; leaves = λ r h. z r v _ _ h w k }
+
+  module _ {p : Room} (e : q ≡ Fits p) where
+    fit : Fitting (take n b) l (asked t name) bit len p
+    unfolding Plans
+    fit = rw e at f
+
+    pub fit-bounds : Bounds n l (length name) bit len p
+    fit-bounds = rw (asked-length t name) at (bounds g fit)
+
+    pub opens-there : {c : List ℕ} {size : ℕ} → length c ≡ length b → {v : Value} {own : List ℕ} → IsSource v bit size own → length own ≡ len → Opens c (p .from) (length name) bit size
+    opens-there h {v} w k =
+        let o = fit-bounds in
+        record {
+          sort = record { v = v; is = w .sort };
+          short = omega (arith, o .short, g .small);
+          small = omega (arith, w .small, o .own, g .small);
+          room = omega (arith, o .sum, o .head, g .room);
+        }
+
+    pub bound-value : (size : ℕ) (own : List ℕ) → length own ≡ len → (v : Value) → IsSource v bit size own → {c d x : List ℕ} →
+        c ≡ sets b (p .from + p .head + len) (slice (p .to) n b) → d ≡ sets c (p .from + p .head) own → x ≡ sets d (p .from) (opening (asked t name) bit size) → BindsTo b n l (asked t name) v x (Length (p .total))
+    bound-value size own k v w {x = x} i j h = bound-in g fit size own k v w x (bound-slice g fit size own k i j h)
+
+    -- The value's own bytes lie from `from` to `to` of the sheet.
+    pub bound-there : (size a c : ℕ) → a ≤ c → c ≤ n → c - a ≡ len → (v : Value) → IsSource v bit size (slice a c (take n b)) → {d x : List ℕ} →
+        d ≡ sets b (p .from + p .head) (slice a c b ++ slice (p .to) n b) → x ≡ sets d (p .from) (opening (asked t name) bit size) → BindsTo b n l (asked t name) v x (Length (p .total))
+    bound-there size a c o i k v w {x = x} y h =
+        let s : slice a c (take n b) ≡ slice a c b = slice-take a c n b o i in
+        let m : length (slice a c (take n b)) ≡ len = length-slice a c (take n b) (omega (arith, length-take-le n b (g .inside))) ∙ k in
+        bound-in g fit size (slice a c (take n b)) m v w x (bound-found g fit size (slice a c (take n b)) m (y ∙ ap (λ z. sets b (p .from + p .head) (z ++ slice (p .to) n b)) (sym s)) h)
+
+pub source-length : {b : List ℕ} {n l : ℕ} → Bindable b n l → {v : Value} {o : Source} → Sources (take n b) v o → (o .to ≤ n) × (length (slice (o .from) (o .to) (take n b)) ≡ o .to - o .from)
+source-length {b} {n} g {o = o} s = (omega (arith, s .inside, length-take-le n b (g .inside)), length-slice (o .from) (o .to) (take n b) (s .inside))

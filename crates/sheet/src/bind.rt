@@ -1,0 +1,357 @@
+// Binding a name inside a lent buffer whose first bytes are the sheet.
+use crate::head::DICTIONARY;
+use crate::head::NAME;
+use crate::head::NONE;
+use crate::head::TEXT;
+use crate::lookup::Found;
+use crate::lookup::item;
+use crate::lookup::made;
+use crate::lookup::order;
+use crate::lookup::skip;
+ghost use mathlib.Core.Path.{_≡_};
+ghost use mathlib.Core.List.{List, [], _++_};
+ghost use mathlib.Core.Option.{some};
+ghost use Prim.Native.Nat.{ℕ, _+_, _-_, _≤_, _<_};
+ghost use lib.ListN.{length, take};
+ghost use lib.Seq.{sets};
+ghost use Rattle.rules.specs.Sheet.{Value, Records, text, nothing, word16Bytes, fieldBytes, encode, set};
+ghost use Rattle.sheet.specs.Parts.{slice};
+ghost use Rattle.sheet.specs.Order.{asked};
+ghost use Rattle.sheet.specs.Find.{Gives};
+ghost use Rattle.sheet.specs.Place.{HasRecords, Placed};
+ghost use Rattle.sheet.specs.Moves.{Arranged};
+ghost use Rattle.sheet.specs.Write.{wide, openLen, opening, mapNo, IsBit, HasSource, Opens, Sources, Plans, IsThere, Bindable, Binds, BindsTo};
+
+// What a binding comes to: too long a sheet, or the sheet's new length.
+pub enum Bound {
+    Over,
+    Length(usize),
+}
+
+// Where a name is bound: in place of the bytes from a place to another.
+pub struct Place {
+    pub from: usize,
+    pub to: usize,
+}
+
+// Finds the place of a name among the records.
+fn spot(s: &[u8], name: &[u8], reference: bool) -> Place
+    requires { ⌜ HasRecords (now s) ⌝ }
+    ensures { λ p. ⌜ ((r : Records) → now (s .entry) ≡ encode r → Placed (now (s .entry)) r (asked reference (now (name .entry))) (p .from) (p .to)) ⌝ }
+{
+    let mut i: usize = 0;
+    while i < s.len() {
+        let o = item(s, i);
+        let from = o.from;
+        let to = o.to;
+        let e = skip(s, o.next, o.count);
+        let c = order(&s[from..to], name, reference);
+        if c == 1 {
+            return Place { from: i, to: e };
+        }
+        if c == 2 {
+            return Place { from: i, to: i };
+        }
+        i = e;
+    }
+    Place { from: i, to: i }
+}
+
+// How many bytes a field takes, with its length.
+fn sized(n: usize) -> usize
+    requires { ⌜ n ≤ 65535 ⌝ }
+    ensures { λ r. ⌜ r ≡ wide n ⌝ }
+{
+    if n == 0 {
+        return 0;
+    }
+    n + 2
+}
+
+// How many bytes of a record stand before its text or its records.
+fn opening_len(name: usize, bit: u8) -> usize
+    requires { ⌜ (name ≤ 65535) × IsBit bit ⌝ }
+    ensures { λ r. ⌜ r ≡ openLen name bit ⌝ }
+{
+    let n = sized(name);
+    if bit & (TEXT | DICTIONARY) != 0 {
+        return 1 + n + 2;
+    }
+    1 + n
+}
+
+// Where a record is to go, with its opening's length and the sheet's new length.
+pub struct Room {
+    pub from: usize,
+    pub to: usize,
+    pub head: usize,
+    pub total: usize,
+}
+
+pub enum Plan {
+    Over,
+    Fits(Room),
+}
+
+// Plans the binding of a name to a value of these many bytes.
+fn find_room(s: &[u8], limit: usize, name: &[u8], reference: bool, bit: u8, len: usize) -> Plan
+    requires { ⌜ HasRecords (now s) × (limit ≤ 65535) × IsBit bit ⌝ }
+    ensures { λ p. ⌜ Plans (now (s .entry)) limit (asked reference (now (name .entry))) bit len p ⌝ }
+{
+    if (limit < name.len()) | (limit < len) {
+        return Plan::Over;
+    }
+    let head = opening_len(name.len(), bit);
+    let p = spot(s, name, reference);
+    let total = p.from + head + len + (s.len() - p.to);
+    if limit < total {
+        return Plan::Over;
+    }
+    Plan::Fits(Room {
+        from: p.from,
+        to: p.to,
+        head: head,
+        total: total,
+    })
+}
+
+// Moves the bytes from a place up to another to a third.
+fn shift(buf: &mut [u8], from: usize, end: usize, to: usize)
+    requires { ⌜ (from ≤ end) × (end ≤ length (now buf)) × (to + (end - from) ≤ length (now buf)) ⌝ }
+    ensures { λ _. ⌜ now (buf .exit) ≡ sets (now (buf .entry)) to (slice from end (now (buf .entry))) ⌝ }
+{
+    if to <= from {
+        buffers::move_down(buf, to, from, end);
+        return;
+    }
+    buffers::move_up(buf, from, end, to - from);
+}
+
+// Puts the bytes from a to b at a place, and behind them the sheet's tail, from `to` to n. Either may lie in the other's way.
+fn arrange(buf: &mut [u8], at: usize, a: usize, b: usize, to: usize, n: usize)
+    requires { ⌜ Arranged (now buf) at a b to n ⌝ }
+    ensures { λ _. ⌜ now (buf .exit) ≡ sets (now (buf .entry)) at (slice a b (now (buf .entry)) ++ slice to n (now (buf .entry))) ⌝ }
+{
+    let e = at + (b - a);
+    if e <= to {
+        shift(buf, a, b, at);
+        shift(buf, to, n, e);
+        return;
+    }
+    shift(buf, to, n, e);
+    let d = e - to;
+    if b <= to {
+        shift(buf, a, b, at);
+        return;
+    }
+    if to <= a {
+        shift(buf, a + d, b + d, at);
+        return;
+    }
+    shift(buf, a, to, at);
+    shift(buf, e, b + d, at + (to - a));
+}
+
+// Writes a 16-bit number, low byte first.
+fn put_number(buf: &mut [u8], at: usize, k: usize)
+    requires { ⌜ (k ≤ 65535) × (at + 2 ≤ length (now buf)) ⌝ }
+    ensures { λ _. ⌜ now (buf .exit) ≡ sets (now (buf .entry)) at (word16Bytes k) ⌝ }
+{
+    buf[at] = (k % 256) as u8;
+    buf[at + 1] = (k / 256) as u8;
+}
+
+// Writes a name; of a reference each `-` as `_`.
+fn put_name(buf: &mut [u8], at: usize, name: &[u8], reference: bool)
+    requires { ⌜ at + length (now name) ≤ length (now buf) ⌝ }
+    ensures { λ _. ⌜ now (buf .exit) ≡ sets (now (buf .entry)) at (asked reference (now (name .entry))) ⌝ }
+{
+    let mut i: usize = 0;
+    while i < name.len() {
+        buf[at + i] = made(reference, name[i]);
+        i += 1;
+    }
+}
+
+// Writes a name with its length, or nothing for the empty one.
+fn put_field(buf: &mut [u8], at: usize, name: &[u8], reference: bool)
+    requires { ⌜ (length (now name) ≤ 65535) × (at + wide (length (now name)) ≤ length (now buf)) ⌝ }
+    ensures { λ _. ⌜ now (buf .exit) ≡ sets (now (buf .entry)) at (fieldBytes (asked reference (now (name .entry)))) ⌝ }
+{
+    if name.len() == 0 {
+        return;
+    }
+    put_number(buf, at, name.len());
+    put_name(buf, at + 2, name, reference);
+}
+
+// The map byte of a record.
+fn map_of(name: usize, bit: u8) -> u8
+    requires { ⌜ IsBit bit ⌝ }
+    ensures { λ r. ⌜ r ≡ mapNo name bit ⌝ }
+{
+    if name == 0 {
+        return bit;
+    }
+    bit | NAME
+}
+
+// Writes a record up to its text or its records.
+fn put_opening(buf: &mut [u8], at: usize, name: &[u8], reference: bool, bit: u8, size: usize)
+    requires { ⌜ Opens (now buf) at (length (now name)) bit size ⌝ }
+    ensures { λ _. ⌜ now (buf .exit) ≡ sets (now (buf .entry)) at (opening (asked reference (now (name .entry))) bit size) ⌝ }
+{
+    buf[at] = map_of(name.len(), bit);
+    put_field(buf, at + 1, name, reference);
+    if bit & (TEXT | DICTIONARY) != 0 {
+        put_number(buf, at + 1 + sized(name.len()), size);
+    }
+}
+
+// A value: its bit, its own bytes' places, and the number that stands before them.
+pub struct Source {
+    pub bit: u8,
+    pub from: usize,
+    pub to: usize,
+    pub size: usize,
+}
+
+// The value that a lookup found.
+fn source_of(value: Found) -> Source
+    ensures { λ o. ⌜ ((s : List ℕ) (v : Value) → Gives s (some v) value → Sources s v o) ⌝ }
+{
+    match value {
+        Found::Missing => Source {
+            bit: NONE,
+            from: 0,
+            to: 0,
+            size: 0,
+        },
+        Found::None => Source {
+            bit: NONE,
+            from: 0,
+            to: 0,
+            size: 0,
+        },
+        Found::Text { from, to } => {
+            if to <= from {
+                return Source {
+                    bit: 0,
+                    from: from,
+                    to: to,
+                    size: 0,
+                };
+            }
+            Source {
+                bit: TEXT,
+                from: from,
+                to: to,
+                size: to - from,
+            }
+        }
+        Found::Dictionary { from, to, count } => Source {
+            bit: DICTIONARY,
+            from: from,
+            to: to,
+            size: count,
+        },
+    }
+}
+
+// Binds a name to a value with this bit, this number and these bytes of its own.
+fn bind_value(
+    buf: &mut [u8],
+    n: usize,
+    limit: usize,
+    name: &[u8],
+    reference: bool,
+    bit: u8,
+    size: usize,
+    own: &[u8],
+) -> Bound
+    requires { ⌜ Bindable (now buf) n limit × HasSource bit size (now own) ⌝ }
+    ensures { λ o. ⌜ Binds (now (buf .entry)) n limit (asked reference (now (name .entry))) bit size (now (own .entry)) (now (buf .exit)) o ⌝ }
+{
+    let Plan::Fits(p) = find_room(&buf[..n], limit, name, reference, bit, own.len()) else {
+        return Bound::Over;
+    };
+    shift(buf, p.to, n, p.from + p.head + own.len());
+    buffers::store(buf, p.from + p.head, own);
+    put_opening(buf, p.from, name, reference, bit, size);
+    Bound::Length(p.total)
+}
+
+// Binds a name to a text.
+pub fn bind_text(
+    buf: &mut [u8],
+    n: usize,
+    limit: usize,
+    name: &[u8],
+    reference: bool,
+    content: &[u8],
+) -> Bound
+    requires { ⌜ Bindable (now buf) n limit ⌝ }
+    ensures { λ o. ⌜ BindsTo (now (buf .entry)) n limit (asked reference (now (name .entry))) (text (now (content .entry))) (now (buf .exit)) o ⌝ }
+{
+    if content.len() == 0 {
+        return bind_value(buf, n, limit, name, reference, 0, 0, content);
+    }
+    bind_value(buf, n, limit, name, reference, TEXT, content.len(), content)
+}
+
+// Binds a name to none.
+pub fn bind_none(buf: &mut [u8], n: usize, limit: usize, name: &[u8], reference: bool) -> Bound
+    requires { ⌜ Bindable (now buf) n limit ⌝ }
+    ensures { λ o. ⌜ BindsTo (now (buf .entry)) n limit (asked reference (now (name .entry))) nothing (now (buf .exit)) o ⌝ }
+{
+    bind_value(buf, n, limit, name, reference, NONE, 0, b"")
+}
+
+// Binds a name to a value that a lookup found in another sheet.
+pub fn bind_from(
+    buf: &mut [u8],
+    n: usize,
+    limit: usize,
+    name: &[u8],
+    reference: bool,
+    other: &[u8],
+    value: Found,
+) -> Bound
+    requires { ⌜ Bindable (now buf) n limit × IsThere (now other) value ⌝ }
+    ensures { λ o. ⌜ ((v : Value) → Gives (now (other .entry)) (some v) value → BindsTo (now (buf .entry)) n limit (asked reference (now (name .entry))) v (now (buf .exit)) o) ⌝ }
+{
+    let o = source_of(value);
+    let from = o.from;
+    let to = o.to;
+    bind_value(
+        buf,
+        n,
+        limit,
+        name,
+        reference,
+        o.bit,
+        o.size,
+        &other[from..to],
+    )
+}
+
+// Binds a name to a value that a lookup found in this sheet.
+pub fn bind_found(
+    buf: &mut [u8],
+    n: usize,
+    limit: usize,
+    name: &[u8],
+    reference: bool,
+    value: Found,
+) -> Bound
+    requires { ⌜ Bindable (now buf) n limit × IsThere (take n (now buf)) value ⌝ }
+    ensures { λ o. ⌜ ((v : Value) → Gives (take n (now (buf .entry))) (some v) value → BindsTo (now (buf .entry)) n limit (asked reference (now (name .entry))) v (now (buf .exit)) o) ⌝ }
+{
+    let o = source_of(value);
+    let Plan::Fits(p) = find_room(&buf[..n], limit, name, reference, o.bit, o.to - o.from) else {
+        return Bound::Over;
+    };
+    arrange(buf, p.from + p.head, o.from, o.to, p.to, n);
+    put_opening(buf, p.from, name, reference, o.bit, o.size);
+    Bound::Length(p.total)
+}

@@ -1,0 +1,19 @@
+// The C interface: the public calls under C names (include/wagtailfen.h). A slice is a pointer and then a length; answers are
+// returned by value.
+ghost use mathlib.Core.Path.{_≡_};
+ghost use lib.ListN.{length};
+ghost use Rattle.rules.specs.Calls.{resolveOf, resolveStringOf};
+
+#[no_mangle]
+pub extern "C" fn wf_resolve(sheet: &[u8], path: &[u8]) -> builder::Resolved
+    ensures { λ r. ⌜ resolveOf (now (sheet .entry)) (now (path .entry)) ≡ record { number = r .number; kind = r .kind } ⌝ }
+{
+    builder::resolve(sheet, path)
+}
+
+#[no_mangle]
+pub extern "C" fn wf_resolve_string(sheet: &[u8], path: &[u8], out: &mut [u8]) -> builder::Text
+    ensures { λ r. ⌜ resolveStringOf (now (sheet .entry)) (now (path .entry)) (length (now (out .entry))) ≡ record { number = r .number; len = r .len; out = now (out .exit) } ⌝ }
+{
+    builder::resolve_string(sheet, path, out)
+}
