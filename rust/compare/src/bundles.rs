@@ -5,28 +5,12 @@ use oracle::Files;
 use oracle::bundle::{Found, encode, find};
 
 const SEGMENTS: [&str; 20] = [
-    "a",
-    "b",
-    "c",
-    "ab",
-    "a-b",
-    "a.b",
-    "a_b",
-    "...",
-    "-",
-    "_",
-    ".a",
-    "a.",
-    "..a",
-    "A",
-    "0",
-    "main.typ",
-    "defs.typ",
-    "CITATION.cff",
-    "x",
-    "zz",
+    "a", "b", "c", "ab", "a-b", "a.b", "a_b", "...", "-", "_", ".a", "a.", "..a", "A", "0", "main.typ", "defs.typ",
+    "CITATION.cff", "x", "zz",
 ];
-const PATH: &[u8] = b"ABZabz019-_.";
+const PATH: &[u8] = b"ABCDEFGHIJKLMNOPQRSTUVWXYZabcdefghijklmnopqrstuvwxyz0123456789-_.";
+/// On both sides of what a segment may hold.
+const EDGES: &[u8] = b"AZaz09-_./:@[`{^ ,+\0\x7f\x80\xff";
 const LONGEST_PATH: usize = 255;
 
 /// Files that make a bundle which keeps the rules. Some few are large.
@@ -131,7 +115,7 @@ fn changed(mut path: Vec<u8>, rng: &mut Rng) -> Vec<u8> {
         0 => path.push(b'/'),
         1 => path.insert(0, b'/'),
         2 => path.insert(i, b'/'),
-        3 => path.insert(i, *rng.pick(PATH)),
+        3 => path.insert(i, *rng.pick(EDGES)),
         4 => path.truncate(i),
         5 => path.insert(i, rng.byte()),
         6 => path.extend([b"/", segment(rng).as_slice()].concat()),

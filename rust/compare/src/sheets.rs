@@ -9,8 +9,10 @@ const NAMES: [&str; 18] =
 const KEYS: [&str; 8] = ["-", "--", "a-b", "x-y", "-x", "x-", "a_b", "a-"];
 const TEXTS: [&str; 14] =
     ["10", "ten seconds", "\"q\"", "a.b", "x", "\n", " \t", "#x", "\\n", "\0", "\x7f", "```", "d.x", "\0\0\0"];
-const WORD: &[u8] = b"ABCXYZabcxyz0189_";
-const KEY: &[u8] = b"ABCXYZabcxyz0189_-";
+const WORD: &[u8] = b"ABCDEFGHIJKLMNOPQRSTUVWXYZabcdefghijklmnopqrstuvwxyz0123456789_";
+const KEY: &[u8] = b"ABCDEFGHIJKLMNOPQRSTUVWXYZabcdefghijklmnopqrstuvwxyz0123456789_-";
+/// On both sides of what a name may hold.
+const EDGES: &[u8] = b"AZaz09__--/:@[`{^. ,\0\x7f\x80\xff";
 
 /// Which bytes a tree's names and texts are made of.
 #[derive(Clone, Copy)]
@@ -208,12 +210,11 @@ pub fn damaged_sheet(rng: &mut Rng) -> (Vec<u8>, Vec<u8>) {
     let tree = match rng.below(400) {
         0 => filled_over(rng),
         1..30 => records(rng, bytes(KEY, KEY, 0), LEVELS, false),
-        30..60 => records(rng, bytes(b"ab_. -", KEY, 0), 2, false),
-        60..90 => records(rng, bytes(WORD, b"ab-. \x80", 0), 3, false),
+        30..60 => records(rng, bytes(EDGES, KEY, 0), 2, false),
+        60..90 => records(rng, bytes(WORD, EDGES, 0), 3, false),
         90..120 => records(rng, bytes(WORD, KEY, 4), 3, false),
         120..160 => wrapped(rng),
-        160..400 => tree(rng),
-        _ => unreachable!(),
+        _ => tree(rng),
     };
     let path = path(&tree, rng);
     let sheet = match rng.below(8) {
