@@ -1,0 +1,58 @@
+/* Wagtailfen: a text builder that is proved, byte for byte. Link target/staticlib/libwagtailfen.a, which
+ * `rt staticlib wagtailfen` makes. Written for x86-64.
+ *
+ * A slice is a pointer and then a length. The pointer of an empty slice is not null either: any aligned address that is
+ * not null will do. A buffer that is written (out) overlaps no other slice of the call.
+ *
+ * Each answer begins with a number: 0 accepted, else the refusal of document 01, section 8:
+ *   2 bundle breaks its layout        6 byte from 128 in a text
+ *   3 sheet breaks its layout        11 output buffer too short
+ *   4 path rule broken
+ * Refused: the other fields are 0 and every byte of a buffer that is written is 0.
+ */
+#ifndef WAGTAILFEN_H
+#define WAGTAILFEN_H
+
+#include <stddef.h>
+#include <stdint.h>
+
+#ifdef __cplusplus
+extern "C" {
+#endif
+
+/* What a path names in a sheet. kind: 0 missing, 1 none, 2 text, 3 dictionary. */
+struct wf_resolved {
+    uint8_t number;
+    uint8_t kind;
+};
+
+/* Refusals 3, 6. */
+struct wf_resolved wf_resolve(const uint8_t *sheet, size_t sheet_len, const uint8_t *path, size_t path_len);
+
+/* The text that a path names in a sheet, empty unless its kind is text: the first len bytes of out, and 0 behind them. */
+struct wf_text {
+    uint8_t number;
+    size_t len;
+};
+
+/* Refusals 3, 6, 11. */
+struct wf_text wf_resolve_string(const uint8_t *sheet, size_t sheet_len, const uint8_t *path, size_t path_len,
+                                 uint8_t *out, size_t out_len);
+
+/* What a path is in a bundle. kind: 0 absent, 1 folder, 2 file. A file's content is the len bytes at start in the bundle;
+ * otherwise start and len are 0. */
+struct wf_found {
+    uint8_t number;
+    uint8_t kind;
+    size_t start;
+    size_t len;
+};
+
+/* Refusals 2, 4. */
+struct wf_found wf_find_file(const uint8_t *bundle, size_t bundle_len, const uint8_t *path, size_t path_len);
+
+#ifdef __cplusplus
+}
+#endif
+
+#endif

@@ -1,0 +1,37 @@
+//! A mode is a public call or two with a generator of cases. To add one: implement `Mode` and list it in `all`.
+//! Calls of the reference that may hang run in `oracle::child::Runner`, which a mode can hold.
+use crate::case::Case;
+use crate::rng::Rng;
+use std::fmt::Debug;
+
+mod files;
+mod lookup;
+
+pub trait Mode {
+    fn name(&self) -> &'static str;
+
+    /// Slow modes run one case where others run so many.
+    fn share(&self) -> u64 {
+        1
+    }
+
+    fn case(&self, rng: &mut Rng) -> Case;
+
+    /// Runs both sides. The answer in a word or two, for the count; or the difference.
+    fn run(&mut self, case: &Case) -> Result<&'static str, String>;
+}
+
+pub fn all() -> Vec<Box<dyn Mode>> {
+    vec![
+        Box::new(lookup::Lookup { damaged: false }),
+        Box::new(lookup::Lookup { damaged: true }),
+        Box::new(files::Find { damaged: false, disk: false }),
+        Box::new(files::Find { damaged: true, disk: false }),
+        Box::new(files::Find { damaged: false, disk: true }),
+    ]
+}
+
+/// All fields of two answers.
+fn same<T: Debug + PartialEq>(call: &str, here: T, wanted: T) -> Result<(), String> {
+    if here == wanted { Ok(()) } else { Err(format!("{call}: here {here:?}, wanted {wanted:?}")) }
+}

@@ -1,0 +1,134 @@
+//! Wagtailfen's proved calls, behind safe functions over slices. The calls are those of `include/wagtailfen.h`; nothing checks
+//! the declarations in `raw` against it but the comparison with the reference.
+//!
+//! Each answer begins with `number`: 0 where the call is accepted, else the refusal of document 01, section 8 (`refusal` names
+//! it). A refused call's other fields are 0, and so is every byte of its output.
+
+pub mod raw;
+
+/// What a path names in a sheet.
+#[repr(C)]
+#[derive(Clone, Copy, Debug, PartialEq, Eq)]
+pub struct Resolved {
+    /// 0 accepted; 3 sheet breaks its layout; 6 byte from 128 in the path.
+    pub number: u8,
+    /// `MISSING`, `NONE`, `TEXT` or `DICTIONARY`.
+    pub kind: u8,
+}
+
+pub const MISSING: u8 = 0;
+pub const NONE: u8 = 1;
+pub const TEXT: u8 = 2;
+pub const DICTIONARY: u8 = 3;
+
+/// A text that was written to an output.
+#[repr(C)]
+#[derive(Clone, Copy, Debug, PartialEq, Eq)]
+pub struct Text {
+    /// 0 accepted; 3 sheet breaks its layout; 6 byte from 128 in the path; 11 output too short.
+    pub number: u8,
+    /// How many bytes of the output it takes. Those behind it are 0.
+    pub len: usize,
+}
+
+/// What a path is in a bundle.
+#[repr(C)]
+#[derive(Clone, Copy, Debug, PartialEq, Eq)]
+pub struct Found {
+    /// 0 accepted; 2 bundle breaks its layout; 4 path rule broken.
+    pub number: u8,
+    /// `ABSENT`, `FOLDER` or `FILE`.
+    pub kind: u8,
+    /// A file's content is `bundle[start..start + len]`; both are 0 otherwise.
+    pub start: usize,
+    pub len: usize,
+}
+
+pub const ABSENT: u8 = 0;
+pub const FOLDER: u8 = 1;
+pub const FILE: u8 = 2;
+
+/// The kind of what `path` names in `sheet`. The path is split at every `.`: a binding, then keys of dictionaries.
+pub fn resolve(sheet: &[u8], path: &[u8]) -> Resolved {
+    // SAFETY: both slices can be read for their lengths, and their pointers are not null.
+    unsafe { raw::wf_resolve(sheet.as_ptr(), sheet.len(), path.as_ptr(), path.len()) }
+}
+
+/// Writes the text that `path` names in `sheet` to the start of `out`, and 0 behind it. The text is empty unless the kind is `TEXT`.
+pub fn resolve_string(sheet: &[u8], path: &[u8], out: &mut [u8]) -> Text {
+    // SAFETY: as above; `out` can be written for its length and overlaps neither.
+    unsafe {
+        raw::wf_resolve_string(sheet.as_ptr(), sheet.len(), path.as_ptr(), path.len(), out.as_mut_ptr(), out.len())
+    }
+}
+
+/// What `path` is in `bundle`.
+pub fn find_file(bundle: &[u8], path: &[u8]) -> Found {
+    // SAFETY: both slices can be read for their lengths, and their pointers are not null.
+    unsafe { raw::wf_find_file(bundle.as_ptr(), bundle.len(), path.as_ptr(), path.len()) }
+}
+
+/// What a number says (document 01, section 8).
+pub fn refusal(number: u8) -> &'static str {
+    match number {
+        0 => "accepted",
+        1 => "work buffer too short",
+        2 => "bundle breaks its layout",
+        3 => "sheet breaks its layout",
+        4 => "path or folder rule broken",
+        5 => "file absent",
+        6 => "byte from 128 in a text or opened file",
+        7 => "seventh dictionary, include or import level",
+        8 => "raw round that moves by nothing",
+        9 => "sheet, value or growing dictionary too long",
+        10 => "middle buffer too short",
+        11 => "output buffer too short",
+        _ => "no number of document 01",
+    }
+}
+
+#[cfg(test)]
+mod tests {
+    use super::*;
+
+    const SHEET: &[u8] = b"\x05\x01\0d\x01\0\x08\x03\x01\0x\x02\x0010";
+
+    #[test]
+    fn kinds() {
+        for (path, kind) in [("x", TEXT), ("d", DICTIONARY), ("d.", NONE), ("y", MISSING), ("x.y", MISSING)] {
+            assert_eq!(resolve(SHEET, path.as_bytes()), Resolved { number: 0, kind }, "{path}");
+        }
+        assert_eq!(resolve(b"\x00\x00", b"x"), Resolved { number: 3, kind: 0 });
+        assert_eq!(resolve(SHEET, b"\x80"), Resolved { number: 6, kind: 0 });
+        assert_eq!(resolve(b"", b""), Resolved { number: 0, kind: MISSING });
+    }
+
+    #[test]
+    fn texts() {
+        let mut out = [0xAA; 3];
+        assert_eq!(resolve_string(SHEET, b"x", &mut out), Text { number: 0, len: 2 });
+        assert_eq!(&out, b"10\0");
+        let mut out = [0xAA; 1];
+        assert_eq!(resolve_string(SHEET, b"x", &mut out), Text { number: 11, len: 0 });
+        assert_eq!(out, [0]);
+        assert_eq!(resolve_string(SHEET, b"d", &mut []), Text { number: 0, len: 0 });
+    }
+
+    #[test]
+    fn files() {
+        let bundle = b"\x02\0\x07\x01a\x01b\x02\0hi\x02\x01z";
+        let found = |kind, start, len| Found { number: 0, kind, start, len };
+        assert_eq!(find_file(bundle, b"a/b"), found(FILE, 9, 2));
+        assert_eq!(find_file(bundle, b"z"), found(FILE, 14, 0));
+        assert_eq!(find_file(bundle, b"a"), found(FOLDER, 0, 0));
+        assert_eq!(find_file(bundle, b"b"), found(ABSENT, 0, 0));
+        assert_eq!(find_file(bundle, b"a/"), Found { number: 4, kind: 0, start: 0, len: 0 });
+        assert_eq!(find_file(b"", b"a"), Found { number: 2, kind: 0, start: 0, len: 0 });
+    }
+
+    #[test]
+    fn numbers() {
+        assert_eq!(refusal(resolve(b"\x10", b"").number), "sheet breaks its layout");
+        assert_eq!(refusal(0), "accepted");
+    }
+}

@@ -1,0 +1,21 @@
+//! The C interface, as `include/wagtailfen.h` declares it. A slice is a pointer and then a length; the pointer is not null even
+//! where the slice is empty. Prefer the safe functions of this crate's root.
+use crate::{Found, Resolved, Text};
+
+unsafe extern "C" {
+    /// `struct wf_resolved wf_resolve(..)`
+    pub fn wf_resolve(sheet: *const u8, sheet_len: usize, path: *const u8, path_len: usize) -> Resolved;
+
+    /// `struct wf_text wf_resolve_string(..)`
+    pub fn wf_resolve_string(
+        sheet: *const u8,
+        sheet_len: usize,
+        path: *const u8,
+        path_len: usize,
+        out: *mut u8,
+        out_len: usize,
+    ) -> Text;
+
+    /// `struct wf_found wf_find_file(..)`
+    pub fn wf_find_file(bundle: *const u8, bundle_len: usize, path: *const u8, path_len: usize) -> Found;
+}
