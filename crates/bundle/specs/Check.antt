@@ -102,6 +102,7 @@ module _ {x q : List ℕ} {k : ℕ} (s : Agree x q k) (o : List ℕ) {c : Bool} 
     where
       ordered : less x q ≡ true
       ordered = and-l (less x q) _ (and-r (isPath q) _ (sym e ∙ t))
+
       at : Dec (length q ≤ k) → k < length q
       at (yes h) = absurd (true≢false (sym ordered ∙ sym (ordered-none s h)))
       at (no h) = omega arith
@@ -165,10 +166,13 @@ module _ (w : Walk) (i : ℕ) (p : Joined) {k : ℕ} (s : Agree (lastPath w) (ta
     where
       kept : keeps (lastPath w) (take (p .len) (p .bytes)) k (w .files) ≡ true
       kept = sym e ∙ t
+
       path : isPath (take (p .len) (p .bytes)) ≡ true
       path = kept-path (lastPath w) (take (p .len) (p .bytes)) k (w .files) kept
+
       ordered : less (lastPath w) (take (p .len) (p .bytes)) ≡ true
       ordered = kept-order (lastPath w) (take (p .len) (p .bytes)) k (w .files) kept
+
       slashless : (eqb (getD (take (p .len) (p .bytes)) k 0) 47 && eqb (getD (w .files) k 0) 1) ≡ false
       slashless = kept-clash (lastPath w) (take (p .len) (p .bytes)) k (w .files) kept
 
@@ -237,12 +241,15 @@ module _ (b : List ℕ) (w : Walk) {h : Head} (H : HeadAt b (entry (length b)) (
     pub next-follow : {p : Joined} → PathOf b h p → p .ok ≡ true → {r : Walk} → Follows w (h .content .start + h .content .len) p r → Next b w r
     unfolding pathsOf
     next-follow {p} P q {r} F = record {
-      reads = λ z es n W. (entryOf b h, record {
-        place = rw (F .place z) (H .inside);
-        room = F .room;
-        rest = more es n W ∙ ap (λ i. closing (es ++ (entryOf b h ∷ [])) (times n (entry (length b)) (drop i b))) (sym (F .place z));
-        paths = rw (paths-more es (entryOf b h) []) (rw (P .text q) at (F .keeps z (pathsOf es) (W .paths)));
-      });
+      reads = λ z es n W. (
+        entryOf b h,
+        record {
+          place = rw (F .place z) (H .inside);
+          room = F .room;
+          rest = more es n W ∙ ap (λ i. closing (es ++ (entryOf b h ∷ [])) (times n (entry (length b)) (drop i b))) (sym (F .place z));
+          paths = rw (paths-more es (entryOf b h) []) (rw (P .text q) at (F .keeps z (pathsOf es) (W .paths)));
+        },
+      );
       breaks = λ z es n W. more es n W ∙ closing-bad es (entryOf b h) _ (λ rest. rw (P .text q) at (F .breaks z (pathsOf es) (W .paths) rest));
     }
 
@@ -269,12 +276,15 @@ bundle-rest b h = rw (word-at b 0 h) (opening (times (getD b 0 0 + 256 * getD b 
 
 pub walking-start : (b : List ℕ) {n : ℕ} → 1 < length b → n ≡ getD b 0 0 + 256 * getD b 1 0 → {w : Walk} → Starts true w → Walking b n w
 unfolding pathsOf
-walking-start b {n} h e {w} s = ([], record {
-  place = omega (arith, s .place);
-  room = s .room;
-  rest = rw (s .place, e) (bundle-rest b h);
-  paths = record { well = rw (s .none) well-start; marks = rw (s .none) (record { on = λ l g m. absurd (unmarked l g m); off = λ l g i. absurd i }) };
-})
+walking-start b {n} h e {w} s = (
+  [],
+  record {
+    place = omega (arith, s .place);
+    room = s .room;
+    rest = rw (s .place, e) (bundle-rest b h);
+    paths = record { well = rw (s .none) well-start; marks = rw (s .none) (record { on = λ l g m. absurd (unmarked l g m); off = λ l g i. absurd i }) };
+  },
+)
   where
     unmarked : (l : ℕ) → l ≤ 0 → getD (w .files) l 0 ≡ 1 → ⊥
     unmarked l g m = let z : l ≡ 0 = omega arith in omega (arith, s .clear, rw z at m)

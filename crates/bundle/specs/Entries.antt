@@ -85,6 +85,7 @@ module _ (b : List ℕ) (s n : ℕ) (h : s ≤ length b) where
     where
       none-zero : eqb n 0 ≡ true → fieldBytes n (drop s b) ≡ fieldAnswer b false 0 0
       none-zero q = rw (eqb-true n 0 q)
+
       none-short : ltb (length b - s) n ≡ true → fieldBytes n (drop s b) ≡ fieldAnswer b false 0 0
       none-short q = rw (takes-short n (drop s b) (omega (arith, ltb-true (length b - s) n q, length-drop s b)))
 
@@ -286,6 +287,7 @@ module _ (b : List ℕ) (i : ℕ) where
       where
         big : leb 8 (getD b i 0) ≡ true → (ltb (getD b i 0) 8 && bit 1 (getD b i 0)) ≡ false
         big z = rw (le-ltb (getD b i 0) 8 (leb-true 8 (getD b i 0) z))
+
         unnamed : not s ≡ true → (ltb (getD b i 0) 8 && bit 1 (getD b i 0)) ≡ false
         unnamed z = rw (sym e ∙ not-true s z) (and-no (ltb (getD b i 0) 8))
 

@@ -182,6 +182,7 @@ cut p t n {fs} {u} h = at (p t) refl
         let k : _≡_ {A = Option (List Entry × List ℕ)} (some (e ∷ s .0, s .1)) (some (fs, u)) = rw (q, z) at h in
         let k2 : _≡_ {A = List Entry × List ℕ} (e ∷ s .0, s .1) (fs, u) = some-same k in
         record { first = e; mid = m; later = s .0; one = q; rest = z ∙ ap (λ y. some (s .0, y)) (ap (λ y. y .1) k2); split = sym (ap (λ y. y .0) k2) }
+
     at : (v : Option (Entry × List ℕ)) → p t ≡ v → Cut p t n fs u
     at none q = none-some (rw q at h)
     at (some r) q = at2 (r .0) (r .1) q (times n p (r .1)) refl

@@ -168,13 +168,15 @@ module _ {v : View} {d : List ℕ} {n : ℕ} (R : Rising v d n) where
       let s : length (parent (take n d)) < length (take n d) = parent-shorter (take n d) (omega arith) in
       let q : length (take m (take n d)) ≡ length (parent (take n d)) = ap length (P .text) in
       let t : take m (take n d) ≡ take m d = take-take m n d (omega arith) in
-      let o : R .steps ≡ suc (R .steps - 1) = omega (arith, R .enough) in
-      (omega arith, record {
-        steps = R .steps - 1;
-        inside = omega (arith, R .inside);
-        enough = omega (arith, R .enough);
-        rest = R .rest ∙ ap (λ y. upward v d y (take n d)) o ∙ up-no v d (R .steps - 1) (take n d) (sym e ∙ h) ∙ ap (upward v d (R .steps - 1)) (sym (P .text) ∙ t);
-      })
+      let o : R .steps ≡ suc (R .steps - 1) = omega (arith, R .enough) in (
+        omega arith,
+        record {
+          steps = R .steps - 1;
+          inside = omega (arith, R .inside);
+          enough = omega (arith, R .enough);
+          rest = R .rest ∙ ap (λ y. upward v d y (take n d)) o ∙ up-no v d (R .steps - 1) (take n d) (sym e ∙ h) ∙ ap (upward v d (R .steps - 1)) (sym (P .text) ∙ t);
+        },
+      )
 
 up-top : (v : View) (d : List ℕ) (k : ℕ) → hasCitation v [] ≡ false → upward v d k [] ≡ d
 unfolding upward parent

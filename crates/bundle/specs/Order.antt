@@ -284,6 +284,7 @@ module _ {ps : List (List ℕ)} {x q o : List ℕ} {k : ℕ} (w : Well ps x) (s 
         where
           slash : getD q (length p) 0 ≡ 47
           slash = ap (λ z. getD z (length p) 0) (r .1) ∙ getD-append-seam p 47 (r .0) 0
+
           longer : (v : List ℕ) → x ≡ p ++ v → length p < k → ⊥
           longer [] e h = omega (arith, s .short, ap length e, length-append p [])
           longer (y ∷ v) e h =
@@ -291,6 +292,7 @@ module _ {ps : List (List ℕ)} {x q o : List ℕ} {k : ℕ} (w : Well ps x) (s 
               let y47 : y ≡ 47 = sym (getD-append-seam p y v 0) ∙ ap (λ z. getD z (length p) 0) (sym e) ∙ t ∙ slash in
               let xs : x ≡ p ++ (47 ∷ v) = e ∙ ap (λ z. p ++ (z ∷ v)) y47 in
               true≢false (sym (split-above p v) ∙ ap (above p) (sym xs) ∙ w .apart p x i (w .there p i))
+
           at : ((v : List ℕ) × (x ≡ p ++ v)) × (length p ≤ k) → (getD q k 0 ≡ 47) × (getD o k 0 ≡ 1)
           at b = here (decLe k (length p))
             where
@@ -329,15 +331,18 @@ module _ {ps : List (List ℕ)} {x q o : List ℕ} {k : ℕ} (w : Well ps x) (s 
     where
       start-same : (j : ℕ) → j ≤ k → take j x ≡ take j q
       start-same j g = sym (take-take j k x g) ∙ ap (take j) (s .same) ∙ take-take j k q g
+
       on : (j : ℕ) → j ≤ length q → getD n j 0 ≡ 1 → In (take j q) (ps ++ (q ∷ []))
       on j g e = low (decLe j k)
         where
           high : Dec (length q ≤ j) → (j ≤ k → ⊥) → In (take j q) (ps ++ (q ∷ []))
           high (yes t) u = let z : j ≡ length q = omega arith in rw (z, take-length q) (in-mid q ps [])
           high (no t) u = absurd (omega (arith, e, d .cleared j (omega (arith, u)) (omega arith)))
+
           low : Dec (j ≤ k) → In (take j q) (ps ++ (q ∷ []))
           low (yes t) = let i : In (take j x) ps = m .on j (omega (arith, s .short)) (sym (d .kept j t) ∙ e) in in-left (take j q) ps (q ∷ []) (rw (start-same j t) at i)
           low (no t) = high (decLe (length q) j) t
+
       off : (j : ℕ) → j ≤ length q → In (take j q) (ps ++ (q ∷ [])) → getD n j 0 ≡ 1
       off j g i = ⊎-elim old new (in-snoc (take j q) q ps i)
         where
@@ -346,6 +351,7 @@ module _ {ps : List (List ℕ)} {x q o : List ℕ} {k : ℕ} (w : Well ps x) (s 
               let b = begins (take j q) (drop j q) i (sym (take-append-drop j q)) in
               let t : j ≤ k = omega (arith, b .1, length-take-le j q g) in
               d .kept j t ∙ m .off j (omega (arith, s .short)) (rw (start-same j t) i)
+
           new : take j q ≡ q → getD n j 0 ≡ 1
           new e = let z : j ≡ length q = sym (length-take-le j q g) ∙ ap length e in rw z (d .marked)
 

@@ -11,7 +11,9 @@ use scan::Set;
 
 // The bits of a map byte.
 const FOLDER: u8 = 1;
+
 const NAME: u8 = 2;
+
 const CONTENT: u8 = 4;
 
 // A byte as a number.
@@ -43,9 +45,17 @@ fn body(b: &[u8], start: usize, len: usize) -> Field
     ensures { λ r. ⌜ Body (now (b .entry)) start len r ⌝ }
 {
     if (len == 0) | (b.len() - start < len) {
-        return Field { ok: false, start: 0, len: 0 };
+        return Field {
+            ok: false,
+            start: 0,
+            len: 0,
+        };
     }
-    Field { ok: true, start: start, len: len }
+    Field {
+        ok: true,
+        start: start,
+        len: len,
+    }
 }
 
 // A field behind its length of 8 bits.
@@ -54,7 +64,11 @@ fn short_field(b: &[u8], at: usize) -> Field
     ensures { λ r. ⌜ FieldAt (now (b .entry)) (field byte) at r ⌝ }
 {
     if b.len() <= at {
-        return Field { ok: false, start: 0, len: 0 };
+        return Field {
+            ok: false,
+            start: 0,
+            len: 0,
+        };
     }
     body(b, at + 1, wide(b[at]))
 }
@@ -65,7 +79,11 @@ fn long_field(b: &[u8], at: usize) -> Field
     ensures { λ r. ⌜ FieldAt (now (b .entry)) (field word16) at r ⌝ }
 {
     if b.len() - at < 2 {
-        return Field { ok: false, start: 0, len: 0 };
+        return Field {
+            ok: false,
+            start: 0,
+            len: 0,
+        };
     }
     body(b, at + 2, word(b, at))
 }
@@ -76,7 +94,11 @@ fn field_if(b: &[u8], at: usize, on: bool, wide: bool) -> Field
     ensures { λ r. ⌜ FieldAt (now (b .entry)) (fieldIf on (lengthOf wide)) at r ⌝ }
 {
     if !on {
-        return Field { ok: true, start: at, len: 0 };
+        return Field {
+            ok: true,
+            start: at,
+            len: 0,
+        };
     }
     if wide {
         return long_field(b, at);
@@ -122,7 +144,11 @@ fn name(b: &[u8], at: usize) -> Field
     let start = f.start;
     let end = start + f.len;
     if !without_slash(&b[start..end]) {
-        return Field { ok: false, start: 0, len: 0 };
+        return Field {
+            ok: false,
+            start: 0,
+            len: 0,
+        };
     }
     f
 }
@@ -139,8 +165,17 @@ pub struct Head {
 fn no_head() -> Head
     ensures { λ r. ⌜ r ≡ noHead ⌝ }
 {
-    let none = Field { ok: false, start: 0, len: 0 };
-    Head { ok: false, folder: none, name: none, content: none }
+    let none = Field {
+        ok: false,
+        start: 0,
+        len: 0,
+    };
+    Head {
+        ok: false,
+        folder: none,
+        name: none,
+        content: none,
+    }
 }
 
 // The fields behind the map byte m.
@@ -160,7 +195,12 @@ fn fields(b: &[u8], at: usize, m: u8) -> Head
     if !c.ok {
         return no_head();
     }
-    Head { ok: true, folder: g, name: f, content: c }
+    Head {
+        ok: true,
+        folder: g,
+        name: f,
+        content: c,
+    }
 }
 
 // The entry at a place.

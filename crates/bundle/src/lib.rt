@@ -14,9 +14,12 @@ mod near;
 mod order;
 mod walk;
 
-use entries::{entry_at, word};
-use scan::paths::{is_path, join, parent};
+use entries::entry_at;
+use entries::word;
 use scan::Set;
+use scan::paths::is_path;
+use scan::paths::join;
+use scan::paths::parent;
 
 // Does the bundle keep its layout?
 pub fn check(b: &[u8]) -> bool
@@ -56,7 +59,10 @@ pub fn find(b: &[u8], path: &[u8]) -> Found
         let h = entry_at(b, at);
         let n = near::relate(b, h, path);
         if n.same {
-            return Found::File { start: h.content.start, len: h.content.len };
+            return Found::File {
+                start: h.content.start,
+                len: h.content.len,
+            };
         }
         folder = folder | n.below;
         at = h.content.start + h.content.len;
@@ -86,7 +92,10 @@ pub fn fetch(b: &[u8], path: &[u8]) -> Opened
     match f {
         Found::Absent => Opened::Refused(5),
         Found::Folder => Opened::Refused(5),
-        Found::File { start, len } => Opened::Text { start: start, len: len },
+        Found::File { start, len } => Opened::Text {
+            start: start,
+            len: len,
+        },
     }
 }
 
@@ -98,7 +107,10 @@ fn plain(b: &[u8], start: usize, len: usize) -> Opened
     let end = start + len;
     let part = &b[start..end];
     if scan::span(part, 0, Set::Ascii) == part.len() {
-        return Opened::Text { start: start, len: len };
+        return Opened::Text {
+            start: start,
+            len: len,
+        };
     }
     Opened::Refused(6)
 }

@@ -39,5 +39,8 @@ pub fn relate(b: &[u8], h: Head, path: &[u8]) -> Relation
     let n = p.len;
     let is = same(&bytes[..n], path);
     let below = above(path, &bytes[..n]);
-    Relation { same: is, below: below }
+    Relation {
+        same: is,
+        below: below,
+    }
 }

@@ -3,9 +3,13 @@ ghost use mathlib.Core.Path.{_≡_};
 ghost use Prim.Native.Nat.{_+_, _≤_, _<_};
 ghost use lib.ListN.{length};
 ghost use Rattle.bundle.specs.Check.{PathOf, Starts, Follows, Next, Room};
-use crate::entries::{entry_at, Head};
-use crate::order::{agree, keeps, mark};
-use scan::paths::{join, Joined};
+use crate::entries::Head;
+use crate::entries::entry_at;
+use crate::order::agree;
+use crate::order::keeps;
+use crate::order::mark;
+use scan::paths::Joined;
+use scan::paths::join;
 
 // Where the next entry begins, the last path, and which of its starts are paths themselves; not ok where a rule is broken.
 pub struct Walk {
@@ -20,7 +24,13 @@ pub struct Walk {
 pub fn start(ok: bool) -> Walk
     ensures { λ r. ⌜ Starts ok r ⌝ }
 {
-    Walk { ok: ok, at: 2, len: 0, bytes: [0u8; 255], files: [0u8; 256] }
+    Walk {
+        ok: ok,
+        at: 2,
+        len: 0,
+        bytes: [0u8; 255],
+        files: [0u8; 256],
+    }
 }
 
 // An entry's path.
@@ -50,7 +60,13 @@ fn follow(w: Walk, at: usize, path: Joined) -> Walk
         return start(false);
     }
     let marks = mark(files, k, n);
-    Walk { ok: true, at: at, len: n, bytes: q, files: marks }
+    Walk {
+        ok: true,
+        at: at,
+        len: n,
+        bytes: q,
+        files: marks,
+    }
 }
 
 // One entry more.
