@@ -14,7 +14,7 @@ use Rattle.rules.specs.Bundle.{Entry}
 use Rattle.rules.specs.Files.{View, File, absent, folder, file, view, contentOf, fetch, plain, opened, exists, hasCitation, upward, projectRoot}
 use Rattle.scan.specs.Sets.{Spans}
 use Rattle.scan.specs.Paths.{Parent}
-use Rattle.buffers.specs.Laws.{span-all, all-span}
+use Rattle.scan.specs.Laws.{span-all, all-span}
 use Rattle.bundle.specs.Find.{Finds, fileAt}
 use Rattle.bundle.specs.declared.Found.{Found}
 use Rattle.bundle.specs.declared.Found.the-variants.{Absent, Folder, File as At}
