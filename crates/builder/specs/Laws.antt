@@ -6,69 +6,50 @@ use mathlib.Core.Option.{Option, none, some}
 use Prim.Native.Nat.{ℕ, zero, suc, _+_, _-_, _≤_, _<_}
 use native.Mathlib.Omega.{arith}
 use native.Mathlib.Nat.{sub-zero}
-use lib.Dec.{leb, ltb}
+use lib.Dec.{leb}
 use lib.ListN.{length, take, drop, getD, length-append, length-drop, length-take, length-replicate}
 use lib.Seq.{sets, sets-eq, length-sets, take-append-seam, take-at, length-take-le}
-use borrow.Author.Tests.{lt-ltb, le-leb, lt-leb}
-use Rattle.rules.specs.Answer.{Answer, refused, accepted, _>>=_, _>>_, check, orRefuse}
+use borrow.Author.Tests.{le-leb, lt-leb}
+use Rattle.rules.specs.Answer.{Answer, accepted, _>>=_, _>>_, check, orRefuse}
 use Rattle.rules.specs.Reader.{all}
 use Rattle.rules.specs.Bytes.{ascii, word}
 use Rattle.rules.specs.Sheet.{Value, Records, encode, goodRecords, sheetOf, resolve, resolveString, textOf, kindOf}
 use Rattle.rules.specs.Calls.{zeros, padded, Kind, kindAnswer, resolveResult, resolveOf, Output, outputAnswer, resolveStringResult, resolveStringOf}
-use Rattle.rules.specs.Laws.Bool.{and-i}
-use Rattle.rules.specs.Laws.Sheet.{isByte, sheet-good, sheet-canonical}
 use Rattle.sheet.specs.declared.lookup.Found.{Found}
 use Rattle.sheet.specs.declared.lookup.Found.the-variants.{Missing, None, Text, Dictionary}
 use Rattle.sheet.specs.Check.{isSome}
+use Rattle.sheet.specs.Use.{all-bytes, Checked, checked, refused, to-look}
 use Rattle.sheet.specs.Order.{asked}
 use Rattle.sheet.specs.Find.{IsSheet, Gives, foundKind, foundText, gives-kind, gives-string}
 use Rattle.builder.specs.Text.{TextAt, Gave, Refuses}
 
--- Bytes of a slice.
-pub all-bytes : (s : List ℕ) → ((i : ℕ) → getD s i 0 < 256) → all isByte s ≡ true
-unfolding all isByte
-all-bytes [] h = refl
-all-bytes (x ∷ xs) h = and-i (ltb x 256) _ (lt-ltb x 256 (h 0)) (all-bytes xs (λ i. h (suc i)))
-
--- What the check says.
-some-at : (x : Option Records) → isSome x ≡ true → (r : Records) × (x ≡ some r)
-unfolding isSome
-some-at none h = absurd (true≢false (sym h))
-some-at (some r) h = (r, refl)
-
-none-at : (x : Option Records) → isSome x ≡ false → x ≡ none
-unfolding isSome
-none-at none h = refl
-none-at (some r) h = absurd (true≢false h)
-
-pub checked : (s : List ℕ) → ((i : ℕ) → getD s i 0 < 256) → isSome (sheetOf s) ≡ true → (r : Records) × (sheetOf s ≡ some r) × (s ≡ encode r) × (goodRecords r word 6 ≡ true)
-checked s b h =
-    let x = some-at (sheetOf s) h in
-    (x .0, x .1, sym (sheet-canonical s (x .0) (all-bytes s b) (x .1)), sheet-good s (x .0) (x .1) .good)
+-- A slice whose check says yes.
+pub known : (s : List ℕ) → ((i : ℕ) → getD s i 0 < 256) → isSome (sheetOf s) ≡ true → Checked s
+known s b h = checked s (all-bytes s b) h
 
 pub is-sheet : (s : List ℕ) → ((i : ℕ) → getD s i 0 < 256) → isSome (sheetOf s) ≡ true → IsSheet s
-is-sheet s b h = let x = checked s b h in record { r = x .0; bytes = x .2; good = x .3 }
+is-sheet s b h = to-look (known s b h)
 
 -- KIND.
 pub resolve-three : (s p : List ℕ) → isSome (sheetOf s) ≡ false → resolveOf s p ≡ record { number = 3; kind = 0 }
 unfolding resolveOf resolveResult kindAnswer orRefuse _>>=_
-resolve-three s p h = rw (none-at (sheetOf s) h)
+resolve-three s p h = rw (refused s h)
 
-pub resolve-six : (s p : List ℕ) → isSome (sheetOf s) ≡ true → all ascii p ≡ false → resolveOf s p ≡ record { number = 6; kind = 0 }
+pub resolve-six : (s p : List ℕ) → ((i : ℕ) → getD s i 0 < 256) → isSome (sheetOf s) ≡ true → all ascii p ≡ false → resolveOf s p ≡ record { number = 6; kind = 0 }
 unfolding resolveOf resolveResult kindAnswer orRefuse check _>>=_ _>>_
-resolve-six s p h a = rw (some-at (sheetOf s) h .1, a)
+resolve-six s p b h a = rw (known s b h .of, a)
 
 module _ (s p : List ℕ) (bytes : (i : ℕ) → getD s i 0 < 256) (h : isSome (sheetOf s) ≡ true) (f : Found)
     (told : (r : Records) → s ≡ encode r → goodRecords r word 6 ≡ true → Gives s (resolve r (asked false p)) f) where
-  gives : Gives s (resolve (checked s bytes h .0) p) f
+  gives : Gives s (resolve (known s bytes h .r) p) f
   unfolding asked
-  gives = let x = checked s bytes h in told (x .0) (x .2) (x .3)
+  gives = let x = known s bytes h in told (x .r) (x .bytes) (x .good)
 
   pub resolve-kind : (k : ℕ) → all ascii p ≡ true → k ≡ foundKind f → resolveOf s p ≡ record { number = 0; kind = k }
   unfolding resolveOf resolveResult kindAnswer orRefuse check _>>=_ _>>_
   resolve-kind k a e =
-      let x = checked s bytes h in
-      rw (x .1, a) (ap (λ z. kindAnswer (accepted z)) (sym (e ∙ gives-kind s (resolve (x .0) p) f gives)))
+      let x = known s bytes h in
+      rw (x .of, a) (ap (λ z. kindAnswer (accepted z)) (sym (e ∙ gives-kind s (resolve (x .r) p) f gives)))
 
 -- Where the text stands.
 pub record Within (s : List ℕ) (f : Found) (a b : ℕ) : Type 0 where
@@ -86,11 +67,11 @@ within s x (Dictionary i j n) a b g t = rw (t .0, t .1) (record { on = omega ari
 -- TEXT.
 pub string-three : (s p : List ℕ) (n : ℕ) → isSome (sheetOf s) ≡ false → resolveStringOf s p n ≡ record { number = 3; len = 0; out = zeros n }
 unfolding resolveStringOf resolveStringResult outputAnswer orRefuse _>>=_
-string-three s p n h = rw (none-at (sheetOf s) h)
+string-three s p n h = rw (refused s h)
 
-pub string-six : (s p : List ℕ) (n : ℕ) → isSome (sheetOf s) ≡ true → all ascii p ≡ false → resolveStringOf s p n ≡ record { number = 6; len = 0; out = zeros n }
+pub string-six : (s p : List ℕ) (n : ℕ) → ((i : ℕ) → getD s i 0 < 256) → isSome (sheetOf s) ≡ true → all ascii p ≡ false → resolveStringOf s p n ≡ record { number = 6; len = 0; out = zeros n }
 unfolding resolveStringOf resolveStringResult outputAnswer orRefuse check _>>=_ _>>_
-string-six s p n h a = rw (some-at (sheetOf s) h .1, a)
+string-six s p n b h a = rw (known s b h .of, a)
 
 pub refused-text : (v : Output) (k n : ℕ) (before after : List ℕ) (number len : ℕ) → v ≡ record { number = k; len = 0; out = zeros n } → n ≡ length before → Refuses before after k number len → v ≡ record { number = number; len = len; out = after }
 refused-text v k n before after number len e l r = e ∙ λ i. record { number = sym (r .says) i; len = sym (r .none) i; out = (ap zeros l ∙ sym (r .cleared)) i }
@@ -103,9 +84,9 @@ module _ (s p : List ℕ) (bytes : (i : ℕ) → getD s i 0 < 256) (h : isSome (
   pub string-gave : (t : List ℕ) (n : ℕ) (out : List ℕ) (number len : ℕ) → all ascii p ≡ true → t ≡ foundText s f → Gave t n out number len → resolveStringOf s p n ≡ record { number = number; len = len; out = out }
   unfolding resolveStringOf resolveStringResult resolveString orRefuse check _>>=_ _>>_
   string-gave t n out number len a e g =
-      let x = checked s bytes h in
-      let q : textOf (resolve (x .0) p) ≡ t = sym (e ∙ gives-string s (resolve (x .0) p) f (gives s p bytes h f told)) in
-      rw (x .1, a, q) (g .is)
+      let x = known s bytes h in
+      let q : textOf (resolve (x .r) p) ≡ t = sym (e ∙ gives-string s (resolve (x .r) p) f (gives s p bytes h f told)) in
+      rw (x .of, a, q) (g .is)
 
 -- A text in a buffer, or 11.
 pub gave-eleven : (t : List ℕ) (n : ℕ) (before after : List ℕ) (number len : ℕ) → n < length t → n ≡ length before → Refuses before after 11 number len → Gave t n after number len

@@ -22,7 +22,7 @@ all-requires : tie.Need-all-requires
 all-requires c κs = search needs
 
 returns-2 : tie.Need-returns-2
-returns-2 c = resolve-six _ _ (sym (c .before .before .before .check .ensures) ∙ not-false _ (c .before .before .if1 .left)) (sym (c .before .all .ensures) ∙ not-true _ (c .if2 .taken))
+returns-2 c = resolve-six (c .before .before .before .before .before .before .args .sheet .now) _ (λ i. omega (arith, c .before .before .before .before .before .shared-slice-known .given i)) (sym (c .before .before .before .check .ensures) ∙ not-false _ (c .before .before .if1 .left)) (sym (c .before .all .ensures) ∙ not-true _ (c .if2 .taken))
 
 lookup-requires : tie.Need-lookup-requires
 lookup-requires c κs = is-sheet (c .before .before .before .before .before .before .args .sheet .now) (λ i. omega (arith, c .before .before .before .before .before .shared-slice-known .given i)) (sym (c .before .before .before .check .ensures) ∙ not-false _ (c .before .before .if1 .left))

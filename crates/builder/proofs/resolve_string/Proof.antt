@@ -36,7 +36,7 @@ same-length-2 : tie.Need-same-length-2
 same-length-2 c = search needs
 
 returns-2 : tie.Need-returns-2
-returns-2 c = refused-text _ 6 _ _ _ _ _ (string-six _ _ _ (sym (c .before .before .before .before .before .before .before .check .ensures) ∙ not-false _ (c .before .before .before .before .before .before .if1 .left)) (sym (c .before .before .before .before .before .all .ensures) ∙ not-true _ (c .before .before .before .before .if2 .taken))) refl (c .before .before .no-text2 .ensures)
+returns-2 c = refused-text _ 6 _ _ _ _ _ (string-six (c .before .before .before .before .before .before .before .before .before .before .before .args .sheet .now) _ _ (λ i. omega (arith, c .before .before .before .before .before .before .before .before .before .before .shared-slice-known .given i)) (sym (c .before .before .before .before .before .before .before .check .ensures) ∙ not-false _ (c .before .before .before .before .before .before .if1 .left)) (sym (c .before .before .before .before .before .all .ensures) ∙ not-true _ (c .before .before .before .before .if2 .taken))) refl (c .before .before .no-text2 .ensures)
 
 lookup-requires : tie.Need-lookup-requires
 lookup-requires c κs = is-sheet (c .before .before .before .before .before .before .before .args .sheet .now) (λ i. omega (arith, c .before .before .before .before .before .before .shared-slice-known .given i)) (sym (c .before .before .before .check .ensures) ∙ not-false _ (c .before .before .if1 .left))
