@@ -11,7 +11,7 @@ use lib.ListN.{length, take, drop, getD, drop-of-length-le, length-drop, length-
 use lib.Seq.{length-take-le}
 use borrow.Author.Tests.{le-leb, lt-leb, eq-eqb, ne-eqb, leb-true, leb-false, not-true, not-false}
 use Rattle.rules.specs.Bytes.{isPath, join, less}
-use Rattle.rules.specs.Layout.{Parser, bind, _>>=_, _>>_, pure, require, broken, left, word16, times}
+use Rattle.rules.specs.Layout.{Parser, bind, _>>=_, _>>_, pure, require, broken, remaining, word16, times}
 use Rattle.rules.specs.Bundle.{Entry, entry, goodPaths, pathsOf, bundleParser, bundleOf}
 use Rattle.rules.specs.Laws.Bool.{and-l, and-r, and-i, and-false-r}
 use Rattle.scan.specs.Paths.{Joins}
@@ -257,12 +257,12 @@ module _ (b : List ℕ) (w : Walk) {h : Head} (H : HeadAt b (entry (length b)) (
 abbrev pub Walking : List ℕ → ℕ → Walk → Type 0
 Walking b n w = (es : List Entry) × Walked b es n w
 
-opening : (v : Option (List Entry × List ℕ)) → bind (bind v (λ r. (left >>= (λ l. require (leb l 0 && goodPaths (pathsOf (r .0))) >> pure (r .0))) (r .1))) (λ r. some (r .0)) ≡ closing [] v
-unfolding bind closing finish left require broken pure _>>=_ _>>_
+opening : (v : Option (List Entry × List ℕ)) → bind (bind v (λ r. (remaining >>= (λ l. require (leb l 0 && goodPaths (pathsOf (r .0))) >> pure (r .0))) (r .1))) (λ r. some (r .0)) ≡ closing [] v
+unfolding bind closing finish remaining require broken pure _>>=_ _>>_
 opening none = refl
 opening (some s) = at (leb (length (s .1)) 0 && goodPaths (pathsOf (s .0))) refl
   where
-    at : (c : Bool) → (leb (length (s .1)) 0 && goodPaths (pathsOf (s .0))) ≡ c → bind ((left >>= (λ l. require (leb l 0 && goodPaths (pathsOf (s .0))) >> pure (s .0))) (s .1)) (λ r. some (r .0)) ≡ finish (length (s .1)) (s .0)
+    at : (c : Bool) → (leb (length (s .1)) 0 && goodPaths (pathsOf (s .0))) ≡ c → bind ((remaining >>= (λ l. require (leb l 0 && goodPaths (pathsOf (s .0))) >> pure (s .0))) (s .1)) (λ r. some (r .0)) ≡ finish (length (s .1)) (s .0)
     at true q = rw (q, finish)
     at false q = rw (q, finish)
 

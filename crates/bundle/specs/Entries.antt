@@ -16,7 +16,7 @@ use lib.Seq.{drop-cons, drop-drop, length-take-le}
 use borrow.Author.Tests.{le-ltb, lt-ltb, leb-true, leb-false, not-true, not-false, eq-eqb, ne-eqb, le-leb, lt-leb, ltb-true, ltb-false, eqb-true, eqb-false}
 use Rattle.rules.specs.Reader.{empty, all, but}
 use Rattle.rules.specs.Bytes.{holds, join}
-use Rattle.rules.specs.Layout.{Parser, bind, _>>=_, _>>_, pure, broken, require, bit, left, byte, word16, field, fieldIf, take as takeBytes}
+use Rattle.rules.specs.Layout.{Parser, bind, _>>=_, _>>_, pure, broken, require, bit, remaining, byte, word16, field, fieldIf, take as takeBytes}
 use Rattle.rules.specs.Bundle.{Entry, entry}
 use Rattle.rules.specs.Laws.Bool.{and-l, and-r, and-i, or-elim, or-false-l, or-false-r}
 use Rattle.scan.specs.Sets.{Spans}
@@ -203,7 +203,7 @@ entryFields n m = do
   f ← fieldIf true byte
   require (not (holds "/" f))
   c ← fieldIf (bit 2 m) word16
-  r ← left
+  r ← remaining
   pure (record { path = join g f; start = n - (length c + r); content = c })
 
 abbrev pub noField : Field
@@ -237,7 +237,7 @@ no-head {b} {p} {i} {h} e q = rw q (record { reads = e; folders = omega arith; n
 
 -- The ways through an entry's fields.
 module _ (b : List ℕ) (m i : ℕ) {g : Field} {s : Bool} (e : s ≡ bit 0 m) (G : FieldAt b (fieldIf s byte) i g) where
-  fields-g : entryFields (length b) m (drop i b) ≡ bind (fieldAnswer b (g .ok) (g .start) (g .len)) (λ r. (fieldIf true byte >>= (λ f. require (not (holds "/" f)) >> (fieldIf (bit 2 m) word16 >>= (λ c. left >>= (λ l. pure (record { path = join (r .0) f; start = length b - (length c + l); content = c })))))) (r .1))
+  fields-g : entryFields (length b) m (drop i b) ≡ bind (fieldAnswer b (g .ok) (g .start) (g .len)) (λ r. (fieldIf true byte >>= (λ f. require (not (holds "/" f)) >> (fieldIf (bit 2 m) word16 >>= (λ c. remaining >>= (λ l. pure (record { path = join (r .0) f; start = length b - (length c + l); content = c })))))) (r .1))
   unfolding entryFields _>>=_
   fields-g = rw (rw e at (G .reads))
 
@@ -246,7 +246,7 @@ module _ (b : List ℕ) (m i : ℕ) {g : Field} {s : Bool} (e : s ≡ bit 0 m) (
   fields-no-folder q = no-head (fields-g ∙ rw q)
 
   module _ {f : Field} (q : g .ok ≡ true) (F : NameAt b (g .start + g .len) f) where
-    fields-f : entryFields (length b) m (drop i b) ≡ bind (fieldAnswer b (f .ok) (f .start) (f .len)) (λ r. (fieldIf (bit 2 m) word16 >>= (λ c. left >>= (λ l. pure (record { path = join (take (g .len) (drop (g .start) b)) (r .0); start = length b - (length c + l); content = c })))) (r .1))
+    fields-f : entryFields (length b) m (drop i b) ≡ bind (fieldAnswer b (f .ok) (f .start) (f .len)) (λ r. (fieldIf (bit 2 m) word16 >>= (λ c. remaining >>= (λ l. pure (record { path = join (take (g .len) (drop (g .start) b)) (r .0); start = length b - (length c + l); content = c })))) (r .1))
     unfolding fieldAnswer bind
     fields-f = fields-g ∙ rw q (F .reads _)
 
@@ -255,7 +255,7 @@ module _ (b : List ℕ) (m i : ℕ) {g : Field} {s : Bool} (e : s ≡ bit 0 m) (
     fields-no-name p = no-head (fields-f ∙ rw p)
 
     module _ {c : Field} {t : Bool} (p : f .ok ≡ true) (d : t ≡ bit 2 m) (C : FieldAt b (fieldIf t word16) (f .start + f .len) c) where
-      fields-c : entryFields (length b) m (drop i b) ≡ bind (fieldAnswer b (c .ok) (c .start) (c .len)) (λ r. (left >>= (λ l. pure (record { path = join (take (g .len) (drop (g .start) b)) (take (f .len) (drop (f .start) b)); start = length b - (length (r .0) + l); content = r .0 }))) (r .1))
+      fields-c : entryFields (length b) m (drop i b) ≡ bind (fieldAnswer b (c .ok) (c .start) (c .len)) (λ r. (remaining >>= (λ l. pure (record { path = join (take (g .len) (drop (g .start) b)) (take (f .len) (drop (f .start) b)); start = length b - (length (r .0) + l); content = r .0 }))) (r .1))
       unfolding fieldAnswer bind _>>=_
       fields-c = fields-f ∙ rw (p, rw d at (C .reads))
 
@@ -264,7 +264,7 @@ module _ (b : List ℕ) (m i : ℕ) {g : Field} {s : Bool} (e : s ≡ bit 0 m) (
       fields-no-content o = no-head (fields-c ∙ rw o)
 
       pub fields-all : c .ok ≡ true → HeadAt b (entryFields (length b) m) i (record { ok = true; folder = g; name = f; content = c })
-      unfolding fieldAnswer headAnswer entryOf bind _>>=_ left pure
+      unfolding fieldAnswer headAnswer entryOf bind _>>=_ remaining pure
       fields-all o =
           let k : c .len ≤ length (drop (c .start) b) = omega (arith, C .inside, length-drop (c .start) b) in
           let z : length b - (length (take (c .len) (drop (c .start) b)) + length (drop (c .start + c .len) b)) ≡ c .start = omega (arith, C .inside, length-take-le (c .len) (drop (c .start) b) k, length-drop (c .start + c .len) b) in

@@ -7,7 +7,7 @@ use lib.Dec.{leb, ltb}
 use lib.ListN.{length}
 use Rattle.rules.specs.Reader.{bytes, all, prefix}
 use Rattle.rules.specs.Bytes.{isPath, join, holds, less}
-use Rattle.rules.specs.Layout.{Parser, bind, _>>=_, _>>_, pure, require, bit, left, byte, word16, fieldIf, times}
+use Rattle.rules.specs.Layout.{Parser, bind, _>>=_, _>>_, pure, require, bit, remaining, byte, word16, fieldIf, times}
 
 -- A file of the bundle: its path, where its content starts in the bundle, its content.
 -- Without content, start is the place behind the entry's last field.
@@ -25,7 +25,7 @@ entry n = do
   f ← fieldIf true byte
   require (not (holds "/" f))
   c ← fieldIf (bit 2 m) word16
-  r ← left
+  r ← remaining
   pure (record { path = join g f; start = n - (length c + r); content = c })
 
 -- Strictly ascending by bytes.
@@ -51,7 +51,7 @@ unfoldable pub bundleParser : ℕ → Parser (List Entry)
 bundleParser n = do
   c ← word16
   es ← times c (entry n)
-  r ← left
+  r ← remaining
   require (leb r 0 && goodPaths (pathsOf es))
   pure es
 

@@ -42,8 +42,8 @@ unfoldable pub bit : ℕ → ℕ → Bool
 bit k m = eqb (m / 2 ^ k % 2) 1
 
 -- How many bytes are left.
-unfoldable pub left : Parser ℕ
-left b = some (length b, b)
+unfoldable pub remaining : Parser ℕ
+remaining b = some (length b, b)
 
 unfoldable pub byte : Parser ℕ
 byte [] = none

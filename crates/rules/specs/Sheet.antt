@@ -21,7 +21,7 @@ mutual
     end : Records
     rec : List ℕ → Value → Records → Records
 
--- THE BYTES. 16 bits, low byte first; a field with its length, or no field for the empty text; the bit that says so.
+-- THE BYTES. 16 bits, low byte first; a field with its length, or no field for the empty text; the mask that says so.
 unfoldable pub word16Bytes : ℕ → List ℕ
 word16Bytes n = n % 256 ∷ n / 256 ∷ []
 
@@ -29,19 +29,19 @@ unfoldable pub fieldBytes : List ℕ → List ℕ
 fieldBytes [] = []
 fieldBytes (x ∷ xs) = word16Bytes (suc (length xs)) ++ (x ∷ xs)
 
-unfoldable pub fieldBit : ℕ → List ℕ → ℕ
-fieldBit b [] = 0
-fieldBit b (x ∷ xs) = b
+unfoldable pub fieldMask : ℕ → List ℕ → ℕ
+fieldMask b [] = 0
+fieldMask b (x ∷ xs) = b
 
 unfoldable pub count : Records → ℕ
 count end = 0
 count (rec n v r) = suc (count r)
 
--- Bit 1 text, bit 2 dictionary, bit 3 none; no bit for the empty text.
-unfoldable pub valueBit : Value → ℕ
-valueBit (text t) = fieldBit 2 t
-valueBit nothing = 8
-valueBit (dictionary r) = 4
+-- As masks: name 1, text 2, dictionary 4, none 8; nothing for the empty text.
+unfoldable pub valueMask : Value → ℕ
+valueMask (text t) = fieldMask 2 t
+valueMask nothing = 8
+valueMask (dictionary r) = 4
 
 -- A record: its map byte, its name (bit 0) and its value.
 unfoldable mutual
@@ -52,7 +52,7 @@ unfoldable mutual
 
   pub encode : Records → List ℕ
   encode end = []
-  encode (rec n v r) = (fieldBit 1 n + valueBit v) ∷ (fieldBytes n ++ (valueBytes v ++ encode r))
+  encode (rec n v r) = (fieldMask 1 n + valueMask v) ∷ (fieldBytes n ++ (valueBytes v ++ encode r))
 
 -- A sheet's length, and a value's: its record without a name (section 8).
 unfoldable pub sheetLength : Records → ℕ

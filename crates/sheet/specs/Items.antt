@@ -10,7 +10,7 @@ use lib.ListN.{length, take, drop, length-append}
 use lib.Seq.{take-append-seam, drop-append-seam}
 use Rattle.rules.specs.Reader.{empty}
 use Rattle.rules.specs.Layout.{bind, _>>=_, _>>_, pure, require, bit, byte, word16, take as taken, field, fieldIf}
-use Rattle.rules.specs.Sheet.{Value, text, nothing, dictionary, Records, end, rec, word16Bytes, fieldBytes, fieldBit, count, valueBit, valueBytes, encode}
+use Rattle.rules.specs.Sheet.{Value, text, nothing, dictionary, Records, end, rec, word16Bytes, fieldBytes, fieldMask, count, valueMask, valueBytes, encode}
 use Rattle.sheet.specs.Parts.{Part, slice, slice-part, part-of, part-cast}
 use Rattle.sheet.specs.Heads.{Shape, plain, absent, holding, shapeKind, shapeText, shapeCount, shape, head, IsItem, Reads}
 use Rattle.sheet.specs.declared.head.Head.{Head}
@@ -63,8 +63,8 @@ field-back : (x : ℕ) (xs b : List ℕ) → field word16 (fieldBytes (x ∷ xs)
 unfolding field fieldBytes require empty pure bind _>>=_ _>>_
 field-back x xs b = rw (append-assoc, word-back) (rw (taken-back (x ∷ xs) b))
 
-map-back : (n : List ℕ) (v : Value) → (bit 0 (fieldBit 1 n + valueBit v) ≡ eqb (fieldBit 1 n) 1) × ((fieldBit 1 n + valueBit v) / 2 ≡ valueBit v / 2)
-unfolding bit fieldBit valueBit
+map-back : (n : List ℕ) (v : Value) → (bit 0 (fieldMask 1 n + valueMask v) ≡ eqb (fieldMask 1 n) 1) × ((fieldMask 1 n + valueMask v) / 2 ≡ valueMask v / 2)
+unfolding bit fieldMask valueMask
 map-back [] (text []) = (refl, refl)
 map-back [] (text (x ∷ xs)) = (refl, refl)
 map-back [] nothing = (refl, refl)
@@ -74,13 +74,13 @@ map-back (y ∷ ys) (text (x ∷ xs)) = (refl, refl)
 map-back (y ∷ ys) nothing = (refl, refl)
 map-back (y ∷ ys) (dictionary r) = (refl, refl)
 
-name-back : (n b : List ℕ) → fieldIf (eqb (fieldBit 1 n) 1) word16 (fieldBytes n ++ b) ≡ some (n, b)
-unfolding fieldIf fieldBit fieldBytes pure
+name-back : (n b : List ℕ) → fieldIf (eqb (fieldMask 1 n) 1) word16 (fieldBytes n ++ b) ≡ some (n, b)
+unfolding fieldIf fieldMask fieldBytes pure
 name-back [] b = refl
 name-back (x ∷ xs) b = field-back x xs b
 
-shape-back : (v : Value) (b : List ℕ) → shape (valueBit v / 2) (valueBytes v ++ b) ≡ some (lead v, encode (inner v) ++ b)
-unfolding shape valueBit valueBytes fieldBit fieldBytes lead inner encode pure bind _>>=_
+shape-back : (v : Value) (b : List ℕ) → shape (valueMask v / 2) (valueBytes v ++ b) ≡ some (lead v, encode (inner v) ++ b)
+unfolding shape valueMask valueBytes fieldMask fieldBytes lead inner encode pure bind _>>=_
 shape-back (text []) b = refl
 shape-back (text (x ∷ xs)) b = rw (field-back x xs b) refl
 shape-back nothing b = refl

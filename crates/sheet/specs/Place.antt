@@ -8,7 +8,7 @@ use lib.Dec.{eqb}
 use lib.ListN.{length, take, drop, getD, length-append, length-take, length-drop, drop-of-length-le}
 use lib.Seq.{take-append-seam, take-add}
 use Rattle.rules.specs.Bytes.{less}
-use Rattle.rules.specs.Sheet.{Value, Records, end, rec, encode, fieldBytes, fieldBit, valueBytes, valueBit, set}
+use Rattle.rules.specs.Sheet.{Value, Records, end, rec, encode, fieldBytes, fieldMask, valueBytes, valueMask, set}
 use Rattle.sheet.specs.Parts.{Part, slice, part-split, part-slice, append-nil}
 use Rattle.sheet.specs.Items.{At}
 use Rattle.sheet.specs.Order.{orderOf, order-less, order-three}
@@ -20,7 +20,7 @@ pub record HasRecords (s : List ℕ) : Type 0 where
 
 -- The bytes of one record.
 unfoldable pub one : List ℕ → Value → List ℕ
-one n v = (fieldBit 1 n + valueBit v) ∷ (fieldBytes n ++ valueBytes v)
+one n v = (fieldMask 1 n + valueMask v) ∷ (fieldBytes n ++ valueBytes v)
 
 pub one-rec : (n : List ℕ) (v : Value) (r : Records) → encode (rec n v r) ≡ one n v ++ encode r
 unfolding encode one

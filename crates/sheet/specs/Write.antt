@@ -16,7 +16,7 @@ use borrow.Author.Tests.{eq-eqb, ne-eqb, ltb-true, ltb-false}
 use Rattle.buffers.specs.Laws.{sets-append}
 use Rattle.rules.specs.Bytes.{less}
 use Rattle.rules.specs.Laws.Bool.{or-elim, or-false-l, or-false-r}
-use Rattle.rules.specs.Sheet.{Value, text, nothing, dictionary, Records, end, rec, encode, count, word16Bytes, fieldBytes, fieldBit, valueBytes, valueBit, set}
+use Rattle.rules.specs.Sheet.{Value, text, nothing, dictionary, Records, end, rec, encode, count, word16Bytes, fieldBytes, fieldMask, valueBytes, valueMask, set}
 use Rattle.sheet.specs.Parts.{Part, slice, part-slice, length-slice, append-nil}
 use Rattle.sheet.specs.Moves.{drop-take, slice-take, sets-before, take-stored}
 use Rattle.sheet.specs.Items.{count-le}
@@ -45,7 +45,7 @@ number bit size = cond (numbered bit) (word16Bytes size) []
 
 -- A record of the name up to its value's own bytes, and how many that are.
 unfoldable pub opening : List ℕ → ℕ → ℕ → List ℕ
-opening n bit size = (fieldBit 1 n + bit) ∷ (fieldBytes n ++ number bit size)
+opening n bit size = (fieldMask 1 n + bit) ∷ (fieldBytes n ++ number bit size)
 
 unfoldable pub openLen : ℕ → ℕ → ℕ
 openLen n bit = 1 + wide n + cond (numbered bit) 2 0
@@ -53,11 +53,11 @@ openLen n bit = 1 + wide n + cond (numbered bit) 2 0
 -- A value's bit.
 pub record IsBit (bit : ℕ) : Type 0 where
   pub v : Value
-  pub is : valueBit v ≡ bit
+  pub is : valueMask v ≡ bit
 
 -- The value v has this bit, this number and these bytes of its own.
 pub record IsSource (v : Value) (bit size : ℕ) (own : List ℕ) : Type 0 where
-  pub sort : valueBit v ≡ bit
+  pub sort : valueMask v ≡ bit
   pub bytes : valueBytes v ≡ number bit size ++ own
   pub small : size ≤ length own
 
@@ -169,8 +169,8 @@ unfolding openLen
 open-ge n bit = omega (arith, wide-le n)
 
 -- What `opening_len` computes.
-numbered-is : (v : Value) → (bitAnd (valueBit v) 6 ≡ 0 → numbered (valueBit v) ≡ false) × ((bitAnd (valueBit v) 6 ≡ 0 → ⊥) → numbered (valueBit v) ≡ true)
-unfolding valueBit fieldBit numbered
+numbered-is : (v : Value) → (bitAnd (valueMask v) 6 ≡ 0 → numbered (valueMask v) ≡ false) × ((bitAnd (valueMask v) 6 ≡ 0 → ⊥) → numbered (valueMask v) ≡ true)
+unfolding valueMask fieldMask numbered
 numbered-is (text []) = (λ e. refl, λ e. absurd (e refl))
 numbered-is (text (x ∷ xs)) = (λ e. absurd (omega arith), λ e. refl)
 numbered-is nothing = (λ e. refl, λ e. absurd (e refl))
@@ -275,8 +275,8 @@ pub map-plain : (n bit : ℕ) → n ≡ 0 → bit ≡ mapNo n bit
 unfolding mapNo
 map-plain n bit h = rw (eq-eqb n 0 h) (omega arith)
 
-named-bit : (v : Value) → bitOr (valueBit v) 1 ≡ 1 + valueBit v
-unfolding valueBit fieldBit
+named-bit : (v : Value) → bitOr (valueMask v) 1 ≡ 1 + valueMask v
+unfolding valueMask fieldMask
 named-bit (text []) = refl
 named-bit (text (x ∷ xs)) = refl
 named-bit nothing = refl
@@ -290,13 +290,13 @@ pub short-of : (l a b : ℕ) → (ltb l a || ltb l b) ≡ false → (a ≤ l) ×
 short-of l a b h = (ltb-false l a (or-false-l (ltb l a) (ltb l b) h), ltb-false l b (or-false-r (ltb l a) (ltb l b) h))
 
 -- The map byte, the name and the number, one behind the other.
-map-no : (n : List ℕ) (bit : ℕ) → mapNo (length n) bit ≡ fieldBit 1 n + bit
-unfolding mapNo fieldBit
+map-no : (n : List ℕ) (bit : ℕ) → mapNo (length n) bit ≡ fieldMask 1 n + bit
+unfolding mapNo fieldMask
 map-no [] bit = refl
 map-no (x ∷ xs) bit = rw (ne-eqb (suc (length xs)) 0 (λ e. omega arith)) refl
 
 module _ (b : List ℕ) (at : ℕ) (f : Bool) (t : List ℕ) {bit : ℕ} (g : IsBit bit) (size : ℕ) {m : ℕ} {c : List ℕ} (e : m ≡ mapNo (length t) bit) (p : c ≡ sets (put b at m) (at + 1) (fieldBytes (asked f t))) where
-  begun : c ≡ sets b at ((fieldBit 1 (asked f t) + bit) ∷ fieldBytes (asked f t))
+  begun : c ≡ sets b at ((fieldMask 1 (asked f t) + bit) ∷ fieldBytes (asked f t))
   begun = p ∙ ap (λ z. sets (put b at z) (at + 1) (fieldBytes (asked f t))) (e ∙ ap (λ z. mapNo z bit) (sym (asked-length f t)) ∙ map-no (asked f t) bit) ∙ rw add-one refl
 
   pub opening-plain : bitAnd bit 6 ≡ 0 → c ≡ sets b at (opening (asked f t) bit size)
@@ -306,27 +306,27 @@ module _ (b : List ℕ) (at : ℕ) (f : Bool) (t : List ℕ) {bit : ℕ} (g : Is
   pub opening-numbered : (bitAnd bit 6 ≡ 0 → ⊥) → {k : ℕ} {d : List ℕ} → k ≡ wide (length t) → d ≡ sets c (at + 1 + k) (word16Bytes size) → d ≡ sets b at (opening (asked f t) bit size)
   unfolding opening number
   opening-numbered h {k} {d} w q =
-      let x = (fieldBit 1 (asked f t) + bit) ∷ fieldBytes (asked f t) in
+      let x = (fieldMask 1 (asked f t) + bit) ∷ fieldBytes (asked f t) in
       let l : at + 1 + k ≡ at + length x = omega (arith, field-length (asked f t), ap wide (asked-length f t)) in
       q ∙ ap (λ z. sets c z (word16Bytes size)) l ∙ ap (λ z. sets z (at + length x) (word16Bytes size)) begun ∙ sets-append b at x (word16Bytes size) ∙ rw (is-numbered g h) refl
 
 -- What a lookup found.
 pub text-empty : (t : List ℕ) → length t ≡ 0 → IsSource (text t) 0 0 t
-unfolding valueBit valueBytes fieldBit fieldBytes number numbered
+unfolding valueMask valueBytes fieldMask fieldBytes number numbered
 text-empty [] h = record { sort = refl; bytes = refl; small = omega arith }
 text-empty (x ∷ xs) h = absurd (omega arith)
 
 pub text-full : (t : List ℕ) → (length t ≡ 0 → ⊥) → IsSource (text t) 2 (length t) t
-unfolding valueBit valueBytes fieldBit fieldBytes number numbered
+unfolding valueMask valueBytes fieldMask fieldBytes number numbered
 text-full [] h = absurd (h refl)
 text-full (x ∷ xs) h = record { sort = refl; bytes = refl; small = omega arith }
 
 pub none-source : IsSource nothing 8 0 []
-unfolding valueBit valueBytes number numbered
+unfolding valueMask valueBytes number numbered
 none-source = record { sort = refl; bytes = refl; small = omega arith }
 
 dictionary-source : (d : Records) {n : ℕ} → count d ≡ n → IsSource (dictionary d) 4 n (encode d)
-unfolding valueBit valueBytes number numbered
+unfolding valueMask valueBytes number numbered
 dictionary-source d e = record { sort = refl; bytes = rw (← e) refl; small = omega (arith, count-le d) }
 
 some-eq : (v w : Value) → some v ≡ some w → v ≡ w

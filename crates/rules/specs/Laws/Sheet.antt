@@ -10,7 +10,7 @@ use lib.ListN.{length, length-append}
 use Rattle.rules.specs.Reader.{all, empty, prefix, same}
 use Rattle.rules.specs.Bytes.{ascii, word, nameByte, less, split}
 use Rattle.rules.specs.Layout.{Parser, bind, _>>=_, _>>_, pure, broken, require, bit, byte, word16, take, field, fieldIf}
-use Rattle.rules.specs.Sheet.{Value, text, nothing, dictionary, Records, end, rec, word16Bytes, fieldBytes, fieldBit, count, valueBit, valueBytes, encode, sheetLength, value, oneRecord, someRecords, allRecords, levels, decode, before, goodValue, goodRecords, sheetOf, get, getFields, getPieces, resolve, textOf, resolveString, set}
+use Rattle.rules.specs.Sheet.{Value, text, nothing, dictionary, Records, end, rec, word16Bytes, fieldBytes, fieldMask, count, valueMask, valueBytes, encode, sheetLength, value, oneRecord, someRecords, allRecords, levels, decode, before, goodValue, goodRecords, sheetOf, get, getFields, getPieces, resolve, textOf, resolveString, set}
 use Rattle.rules.specs.Laws.Bool.{and-l, and-r, and-i, and-false-r, or-i-l, or-i-r, or-elim, or-false-l, or-false-r, not-true, true-leb, leb-true, true-ltb, ltb-true, false-ltb, true-eqb, eqb-true, false-eqb}
 
 -- THE ORDER OF NAMES.
@@ -274,8 +274,8 @@ unfolding field fieldBytes require empty pure bind _>>=_ _>>_
 field-read x xs b = rw (append-assoc, word16-read) (rw (take-read (x ∷ xs) b))
 
 -- The map byte says whether there is a name, and of which kind the value is.
-map-byte : (n : List ℕ) (v : Value) → (bit 0 (fieldBit 1 n + valueBit v) ≡ eqb (fieldBit 1 n) 1) × ((fieldBit 1 n + valueBit v) / 2 ≡ valueBit v / 2)
-unfolding bit fieldBit valueBit
+map-byte : (n : List ℕ) (v : Value) → (bit 0 (fieldMask 1 n + valueMask v) ≡ eqb (fieldMask 1 n) 1) × ((fieldMask 1 n + valueMask v) / 2 ≡ valueMask v / 2)
+unfolding bit fieldMask valueMask
 map-byte [] (text []) = (refl, refl)
 map-byte [] (text (x ∷ xs)) = (refl, refl)
 map-byte [] nothing = (refl, refl)
@@ -285,31 +285,31 @@ map-byte (y ∷ ys) (text (x ∷ xs)) = (refl, refl)
 map-byte (y ∷ ys) nothing = (refl, refl)
 map-byte (y ∷ ys) (dictionary r) = (refl, refl)
 
-name-read : (n b : List ℕ) → fieldIf (eqb (fieldBit 1 n) 1) word16 (fieldBytes n ++ b) ≡ some (n, b)
-unfolding fieldIf fieldBit fieldBytes pure
+name-read : (n b : List ℕ) → fieldIf (eqb (fieldMask 1 n) 1) word16 (fieldBytes n ++ b) ≡ some (n, b)
+unfolding fieldIf fieldMask fieldBytes pure
 name-read [] b = refl
 name-read (x ∷ xs) b = field-read x xs b
 
-text-read : (records : ℕ → Parser Records) (t b : List ℕ) → value records (fieldBit 2 t / 2) (fieldBytes t ++ b) ≡ some (text t, b)
-unfolding value fieldBit fieldBytes pure bind _>>=_
+text-read : (records : ℕ → Parser Records) (t b : List ℕ) → value records (fieldMask 2 t / 2) (fieldBytes t ++ b) ≡ some (text t, b)
+unfolding value fieldMask fieldBytes pure bind _>>=_
 text-read records [] b = refl
 text-read records (x ∷ xs) b = rw (field-read x xs b)
 
-record-read : (records : ℕ → Parser Records) (n : List ℕ) (v : Value) (b : List ℕ) → value records (valueBit v / 2) (valueBytes v ++ b) ≡ some (v, b) →
-    oneRecord records ((fieldBit 1 n + valueBit v) ∷ (fieldBytes n ++ (valueBytes v ++ b))) ≡ some ((n, v), b)
+record-read : (records : ℕ → Parser Records) (n : List ℕ) (v : Value) (b : List ℕ) → value records (valueMask v / 2) (valueBytes v ++ b) ≡ some (v, b) →
+    oneRecord records ((fieldMask 1 n + valueMask v) ∷ (fieldBytes n ++ (valueBytes v ++ b))) ≡ some ((n, v), b)
 unfolding oneRecord byte pure bind _>>=_
 record-read records n v b h = rw (map-byte n v .0, map-byte n v .1, name-read n (valueBytes v ++ b)) (rw h)
 
 records-step : (records : ℕ → Parser Records) (n : List ℕ) (v : Value) (r : Records) (b : List ℕ) →
-    value records (valueBit v / 2) (valueBytes v ++ (encode r ++ b)) ≡ some (v, encode r ++ b) → someRecords records (count r) (encode r ++ b) ≡ some (r, b) →
+    value records (valueMask v / 2) (valueBytes v ++ (encode r ++ b)) ≡ some (v, encode r ++ b) → someRecords records (count r) (encode r ++ b) ≡ some (r, b) →
     someRecords records (suc (count r)) (encode (rec n v r) ++ b) ≡ some (rec n v r, b)
 unfolding someRecords encode pure bind _>>=_
 records-step records n v r b h k = simp append-assoc (rw (record-read records n v (encode r ++ b) h) (rw k))
 
 mutual
-  unfolding value valueBit valueBytes goodValue count levels someRecords pure bind _>>=_
+  unfolding value valueMask valueBytes goodValue count levels someRecords pure bind _>>=_
 
-  value-read : (v : Value) (l : ℕ) (b : List ℕ) → goodValue v l ≡ true → value (levels l) (valueBit v / 2) (valueBytes v ++ b) ≡ some (v, b)
+  value-read : (v : Value) (l : ℕ) (b : List ℕ) → goodValue v l ≡ true → value (levels l) (valueMask v / 2) (valueBytes v ++ b) ≡ some (v, b)
   value-read (text t) l b h = text-read (levels l) t b
   value-read nothing l b h = refl
   value-read (dictionary r) zero b h = absurd (false≢true h)
@@ -321,7 +321,7 @@ mutual
       let g = good-parts n v r p l h in
       records-step (levels l) n v r b (value-read v l (encode r ++ b) (g .value)) (records-read r p l b (g .later))
 
-all-step : (records : ℕ → Parser Records) (n : List ℕ) (v : Value) (r : Records) (k : ℕ) → value records (valueBit v / 2) (valueBytes v ++ encode r) ≡ some (v, encode r) →
+all-step : (records : ℕ → Parser Records) (n : List ℕ) (v : Value) (r : Records) (k : ℕ) → value records (valueMask v / 2) (valueBytes v ++ encode r) ≡ some (v, encode r) →
     allRecords records k (encode r) ≡ some r → allRecords records (suc k) (encode (rec n v r)) ≡ some (rec n v r)
 unfolding allRecords encode bind
 all-step records n v r k h q = rw (record-read records n v (encode r) h) (rw q)
@@ -378,12 +378,12 @@ take-written (suc n) (x ∷ b) y h =
 
 -- A field that was read is not empty.
 field-full : (t c : List ℕ) (y : List ℕ × List ℕ) → bind (require (not (empty t)) c) (λ u. some (t, u .1)) ≡ some y →
-    ((t, c) ≡ y) × (fieldBytes t ≡ word16Bytes (length t) ++ t) × ((k : ℕ) → fieldBit k t ≡ k)
-unfolding bind require empty broken pure fieldBytes fieldBit
+    ((t, c) ≡ y) × (fieldBytes t ≡ word16Bytes (length t) ++ t) × ((k : ℕ) → fieldMask k t ≡ k)
+unfolding bind require empty broken pure fieldBytes fieldMask
 field-full [] c y h = absurd (Option·none-ne-some y h)
 field-full (x ∷ xs) c y h = (cc, refl, λ k. refl)
 
-field-written : (b : List ℕ) (y : List ℕ × List ℕ) → all isByte b ≡ true → field word16 b ≡ some y → (b ≡ fieldBytes (y .0) ++ y .1) × ((k : ℕ) → fieldBit k (y .0) ≡ k)
+field-written : (b : List ℕ) (y : List ℕ × List ℕ) → all isByte b ≡ true → field word16 b ≡ some y → (b ≡ fieldBytes (y .0) ++ y .1) × ((k : ℕ) → fieldMask k (y .0) ≡ k)
 unfolding field pure _>>=_ _>>_
 field-written b y a h =
     let i = bind-some (word16 b) (λ r. bind (take (r .0) (r .1)) (λ s. bind (require (not (empty (s .0))) (s .1)) (λ u. some (s .0, u .1)))) h in
@@ -393,8 +393,8 @@ field-written b y a h =
     let t = take-written (i .0 .0) (i .0 .1) (j .0) (j .1) in
     rw (← (f .0)) (rw (f .1, append-assoc, t .0, ← (t .1)) w, f .2)
 
-name-written-at : (m : ℕ) (b : List ℕ) (y : List ℕ × List ℕ) (c : Bool) → bit 0 m ≡ c → all isByte b ≡ true → fieldIf c word16 b ≡ some y → (b ≡ fieldBytes (y .0) ++ y .1) × (fieldBit 1 (y .0) ≡ m % 2)
-unfolding fieldIf bit pure fieldBytes fieldBit
+name-written-at : (m : ℕ) (b : List ℕ) (y : List ℕ × List ℕ) (c : Bool) → bit 0 m ≡ c → all isByte b ≡ true → fieldIf c word16 b ≡ some y → (b ≡ fieldBytes (y .0) ++ y .1) × (fieldMask 1 (y .0) ≡ m % 2)
+unfolding fieldIf bit pure fieldBytes fieldMask
 name-written-at m b y true q a h =
     let f = field-written b y a h in
     let o : m / 1 % 2 ≡ 1 = true-eqb (m / 1 % 2) 1 q in
@@ -404,7 +404,7 @@ name-written-at m b y false q a h =
     let o = false-eqb (m / 1 % 2) 1 q in
     rw (← e) (refl, omega arith)
 
-name-written : (m : ℕ) (b : List ℕ) (y : List ℕ × List ℕ) → all isByte b ≡ true → fieldIf (bit 0 m) word16 b ≡ some y → (b ≡ fieldBytes (y .0) ++ y .1) × (fieldBit 1 (y .0) ≡ m % 2)
+name-written : (m : ℕ) (b : List ℕ) (y : List ℕ × List ℕ) → all isByte b ≡ true → fieldIf (bit 0 m) word16 b ≡ some y → (b ≡ fieldBytes (y .0) ++ y .1) × (fieldMask 1 (y .0) ≡ m % 2)
 name-written m b y a h = name-written-at m b y (bit 0 m) refl a h
 
 dictionary-written : (n : ℕ) (b c : List ℕ) (y : Records × List ℕ) → b ≡ word16Bytes n ++ c → (count (y .0) ≡ n) × (c ≡ encode (y .0) ++ y .1) → b ≡ valueBytes (dictionary (y .0)) ++ y .1
@@ -414,8 +414,8 @@ dictionary-written n b c y w r = rw (append-assoc, r .0, ← (r .1)) w
 -- For a parser of a dictionary's records: what it reads is written back.
 module _ (records : ℕ → Parser Records) (back : (n : ℕ) (b : List ℕ) (y : Records × List ℕ) → all isByte b ≡ true → records n b ≡ some y → (count (y .0) ≡ n) × (b ≡ encode (y .0) ++ y .1)) where
   value-written-at : (k : ℕ) (b : List ℕ) (y : Value × List ℕ) (c₀ c₁ c₂ c₄ : Bool) → eqb k 0 ≡ c₀ → eqb k 1 ≡ c₁ → eqb k 2 ≡ c₂ → eqb k 4 ≡ c₄ → all isByte b ≡ true → value records k b ≡ some y →
-      (b ≡ valueBytes (y .0) ++ y .1) × (valueBit (y .0) ≡ 2 * k)
-  unfolding value valueBytes valueBit fieldBytes fieldBit pure broken _>>=_
+      (b ≡ valueBytes (y .0) ++ y .1) × (valueMask (y .0) ≡ 2 * k)
+  unfolding value valueBytes valueMask fieldBytes fieldMask pure broken _>>=_
   value-written-at k b y true c₁ c₂ c₄ q₀ q₁ q₂ q₄ a h =
       let g : some (text [], b) ≡ some y = rw (q₀, value) at h in
       let e : (text [], b) ≡ y = cc in
@@ -443,11 +443,11 @@ module _ (records : ℕ → Parser Records) (back : (n : ℕ) (b : List ℕ) (y 
   value-written-at k b y false false false false q₀ q₁ q₂ q₄ a h =
       absurd (Option·none-ne-some y (rw (q₀, q₁, q₂, q₄, value) at h))
 
-  value-written : (k : ℕ) (b : List ℕ) (y : Value × List ℕ) → all isByte b ≡ true → value records k b ≡ some y → (b ≡ valueBytes (y .0) ++ y .1) × (valueBit (y .0) ≡ 2 * k)
+  value-written : (k : ℕ) (b : List ℕ) (y : Value × List ℕ) → all isByte b ≡ true → value records k b ≡ some y → (b ≡ valueBytes (y .0) ++ y .1) × (valueMask (y .0) ≡ 2 * k)
   value-written k b y a h = value-written-at k b y (eqb k 0) (eqb k 1) (eqb k 2) (eqb k 4) refl refl refl refl a h
 
   record-written : (b : List ℕ) (y : (List ℕ × Value) × List ℕ) → all isByte b ≡ true → oneRecord records b ≡ some y →
-      (b ≡ (fieldBit 1 (y .0 .0) + valueBit (y .0 .1)) ∷ (fieldBytes (y .0 .0) ++ (valueBytes (y .0 .1) ++ y .1))) × (all isByte (y .1) ≡ true)
+      (b ≡ (fieldMask 1 (y .0 .0) + valueMask (y .0 .1)) ∷ (fieldBytes (y .0 .0) ++ (valueBytes (y .0 .1) ++ y .1))) × (all isByte (y .1) ≡ true)
   unfolding oneRecord byte pure bind _>>=_ all
   record-written [] y a h = absurd (Option·none-ne-some y h)
   record-written (m ∷ b) y a h =
@@ -458,7 +458,7 @@ module _ (records : ℕ → Parser Records) (back : (n : ℕ) (b : List ℕ) (y 
       let f = all-rest isByte (fieldBytes (i .0 .0)) (i .0 .1) (rw (n .0) at g) in
       let v = value-written (m / 2) (i .0 .1) (j .0) f (j .1) in
       let e : ((i .0 .0, j .0 .0), j .0 .1) ≡ y = cc (j .2) in
-      let o : m ≡ fieldBit 1 (i .0 .0) + valueBit (j .0 .0) = omega arith in
+      let o : m ≡ fieldMask 1 (i .0 .0) + valueMask (j .0 .0) = omega arith in
       rw (← e) (rw (← o, ← (v .0), ← (n .0)), all-rest isByte (valueBytes (j .0 .0)) (j .0 .1) (rw (v .0) at f))
 
   records-written : (n : ℕ) (b : List ℕ) (y : Records × List ℕ) → all isByte b ≡ true → someRecords records n b ≡ some y → (count (y .0) ≡ n) × (b ≡ encode (y .0) ++ y .1)
