@@ -3,12 +3,11 @@ use mathlib.Core.Path.{_≡_, refl, sym, ap, _∙_}
 use mathlib.Core.List.{List, [], _∷_, _++_}
 use mathlib.Core.Bool.{Bool, true, false, true≢false}
 use mathlib.Core.Option.{Option, none, some}
-use Prim.Native.Nat.{ℕ, zero, suc, _+_, _-_, _≤_, _<_}
+use Prim.Native.Nat.{ℕ, _-_, _≤_, _<_}
 use native.Mathlib.Omega.{arith}
-use native.Mathlib.Nat.{sub-zero}
 use lib.Dec.{leb}
-use lib.ListN.{length, take, drop, getD, length-append, length-drop, length-take, length-replicate}
-use lib.Seq.{sets, sets-eq, length-sets, take-append-seam, take-at, length-take-le}
+use lib.ListN.{length, take, drop, getD}
+use lib.Seq.{sets, sets-eq, length-sets, take-append-seam}
 use borrow.Author.Tests.{le-leb, lt-leb}
 use Rattle.rules.specs.Answer.{Answer, accepted, _>>=_, _>>_, check, orRefuse}
 use Rattle.rules.specs.Reader.{all}
@@ -103,18 +102,3 @@ gave-text t n b c d m h l k s p =
     let f : take m c ≡ t = ap (λ z. take z c) k ∙ ap (take (length t)) s ∙ stored-first b t (omega arith) in
     let g : padded n t ≡ d = sym (p ∙ ap (λ z. padded z (take m c)) e ∙ ap (padded n) f) in
     record { is = rw (le-leb (length t) n h) (λ i. record { number = 0; len = sym k i; out = g i }) }
-
-pub part-length : (s : List ℕ) (a b : ℕ) → b ≤ length s → length (take (b - a) (drop a s)) ≡ b - a
-part-length s a b h = length-take-le (b - a) (drop a s) (rw length-drop (omega arith))
-
-pub length-zeros : (n : ℕ) → length (zeros n) ≡ n
-unfolding zeros
-length-zeros n = length-replicate n 0
-
-pub length-padded-take : (l : List ℕ) (k : ℕ) → length (padded (length l) (take k l)) ≡ length l
-unfolding padded zeros
-length-padded-take l k = simp (length-append, length-replicate, length-take) (omega arith)
-
--- A buffer that was stored into and then cleared behind.
-pub kept-length : (b c d t : List ℕ) (k : ℕ) → c ≡ sets b 0 t → d ≡ padded (length c) (take k c) → length d ≡ length b
-kept-length b c d t k s p = ap length p ∙ length-padded-take c k ∙ ap length s ∙ length-sets b 0 t

@@ -2,8 +2,7 @@
 // the answer, and the whole contents of every writable buffer, accepted and refused alike.
 use sheet::lookup::Found;
 ghost use mathlib.Core.Path.{_≡_};
-ghost use Prim.Native.Nat.{_-_, _≤_};
-ghost use lib.ListN.{length, take, drop};
+ghost use lib.ListN.{length};
 ghost use Rattle.rules.specs.Calls.{resolveOf, resolveStringOf, findFileOf};
 ghost use Rattle.sheet.specs.Find.{foundKind};
 ghost use Rattle.builder.specs.Files.{fileAnswer};
@@ -89,16 +88,15 @@ fn no_text(out: &mut [u8], number: u8) -> Text
     }
 }
 
-// Puts a found text at the start of a buffer, zero behind it, or refuses it: 11.
-fn give(sheet: &[u8], from: usize, to: usize, out: &mut [u8]) -> Text
-    requires { ⌜ (from ≤ to) × (to ≤ length (now sheet)) ⌝ }
-    ensures { λ r. ⌜ Gave (take (to - from) (drop from (now (sheet .entry)))) (length (now (out .entry))) (now (out .exit)) (r .number) (r .len) ⌝ }
+// Puts a text at the start of a buffer, zero behind it, or refuses it: 11.
+fn give(text: &[u8], out: &mut [u8]) -> Text
+    ensures { λ r. ⌜ Gave (now (text .entry)) (length (now (out .entry))) (now (out .exit)) (r .number) (r .len) ⌝ }
 {
-    let n = to - from;
+    let n = text.len();
     if out.len() < n {
         return no_text(out, 11);
     }
-    buffers::store(out, 0, &sheet[from..to]);
+    buffers::store(out, 0, text);
     buffers::clear_from(out, n);
     Text { number: 0, len: n }
 }
@@ -114,7 +112,9 @@ pub fn resolve_string(sheet: &[u8], path: &[u8], out: &mut [u8]) -> Text
         return no_text(out, 6);
     }
     let place = text_place(sheet::lookup::lookup(sheet, path, false));
-    give(sheet, place.from, place.to, out)
+    let from = place.from;
+    let to = place.to;
+    give(&sheet[from..to], out)
 }
 
 // What a path is in a bundle. Kind: 0 absent, 1 folder, 2 file; a file's content stands at `start` in the bundle.

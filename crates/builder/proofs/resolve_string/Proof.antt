@@ -44,18 +44,25 @@ lookup-requires c κs = is-sheet (c .before .before .before .before .before .bef
 text-place-requires : tie.Need-text-place-requires
 text-place-requires c κs = search needs
 
+sub-give : tie.Need-sub-give
+sub-give c = (string-within (c .before .before .before .before .before .before .before .before .before .args .sheet .now) _ (λ i. omega (arith, c .before .before .before .before .before .before .before .before .shared-slice-known .given i)) (sym (c .before .before .before .before .before .check .ensures) ∙ not-false _ (c .before .before .before .before .if1 .left)) _ (c .before .lookup .ensures) _ _ (c .text-place .ensures)) .on
+
+part-give-start : tie.Need-part-give-start
+part-give-start c = (string-within (c .before .before .before .before .before .before .before .before .before .args .sheet .now) _ (λ i. omega (arith, c .before .before .before .before .before .before .before .before .shared-slice-known .given i)) (sym (c .before .before .before .before .before .check .ensures) ∙ not-false _ (c .before .before .before .before .if1 .left)) _ (c .before .lookup .ensures) _ _ (c .text-place .ensures)) .on
+
+part-give-end : tie.Need-part-give-end
+part-give-end c = (string-within (c .before .before .before .before .before .before .before .before .before .args .sheet .now) _ (λ i. omega (arith, c .before .before .before .before .before .before .before .before .shared-slice-known .given i)) (sym (c .before .before .before .before .before .check .ensures) ∙ not-false _ (c .before .before .before .before .if1 .left)) _ (c .before .lookup .ensures) _ _ (c .text-place .ensures)) .inside
+
 give-requires : tie.Need-give-requires
-give-requires c κs =
-    let w = string-within (c .before .before .before .before .before .before .before .before .before .before .args .sheet .now) _ (λ i. omega (arith, c .before .before .before .before .before .before .before .before .before .shared-slice-known .given i)) (sym (c .before .before .before .before .before .before .check .ensures) ∙ not-false _ (c .before .before .before .before .before .if1 .left)) _ (c .before .before .lookup .ensures) _ _ (c .before .text-place .ensures) in
-    (w .on, w .inside)
+give-requires c κs = search needs
 
 same-length-3 : tie.Need-same-length-3
 same-length-3 c = search needs
 
 returns-3 : tie.Need-returns-3
 returns-3 c =
-    let w = string-within (c .before .before .before .before .before .before .before .before .before .before .before .before .before .args .sheet .now) _ (λ i. omega (arith, c .before .before .before .before .before .before .before .before .before .before .before .before .shared-slice-known .given i)) (sym (c .before .before .before .before .before .before .before .before .before .check .ensures) ∙ not-false _ (c .before .before .before .before .before .before .before .before .if1 .left)) _ (c .before .before .before .before .before .lookup .ensures) _ _ (c .before .before .before .before .text-place .ensures) in
-    string-gave (c .before .before .before .before .before .before .before .before .before .before .before .before .before .args .sheet .now) _ (λ i. omega (arith, c .before .before .before .before .before .before .before .before .before .before .before .before .shared-slice-known .given i)) (sym (c .before .before .before .before .before .before .before .before .before .check .ensures) ∙ not-false _ (c .before .before .before .before .before .before .before .before .if1 .left)) _ (c .before .before .before .before .before .lookup .ensures) _ _ _ _ _ (sym (c .before .before .before .before .before .before .before .all .ensures) ∙ not-false _ (c .before .before .before .before .before .before .if2 .left)) (w .text) (c .before .before .give .ensures)
+    let w = string-within (c .before .before .before .before .before .before .before .before .before .before .before .before .before .before .args .sheet .now) _ (λ i. omega (arith, c .before .before .before .before .before .before .before .before .before .before .before .before .before .shared-slice-known .given i)) (sym (c .before .before .before .before .before .before .before .before .before .before .check .ensures) ∙ not-false _ (c .before .before .before .before .before .before .before .before .before .if1 .left)) _ (c .before .before .before .before .before .before .lookup .ensures) _ _ (c .before .before .before .before .before .text-place .ensures) in
+    string-gave (c .before .before .before .before .before .before .before .before .before .before .before .before .before .before .args .sheet .now) _ (λ i. omega (arith, c .before .before .before .before .before .before .before .before .before .before .before .before .before .shared-slice-known .given i)) (sym (c .before .before .before .before .before .before .before .before .before .before .check .ensures) ∙ not-false _ (c .before .before .before .before .before .before .before .before .before .if1 .left)) _ (c .before .before .before .before .before .before .lookup .ensures) _ _ _ _ _ (sym (c .before .before .before .before .before .before .before .before .all .ensures) ∙ not-false _ (c .before .before .before .before .before .before .before .if2 .left)) (w .text) (c .before .before .give .ensures)
 
 pub resolve-string-spec : {M : Type 1} → statement M
 resolve-string-spec =
@@ -71,6 +78,9 @@ resolve-string-spec =
     returns-2
     lookup-requires
     text-place-requires
+    sub-give
+    part-give-start
+    part-give-end
     give-requires
     same-length-3
     returns-3)
