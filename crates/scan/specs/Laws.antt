@@ -1,14 +1,14 @@
 -- Scanning at a place of a text.
 use mathlib.Core.Path.{_≡_, refl, sym, ap, _∙_}
-use mathlib.Core.List.{List, [], _∷_, _++_, append-assoc}
+use mathlib.Core.List.{List, [], _∷_, _++_, append-assoc, append-nil}
 use mathlib.Core.Bool.{Bool, true, false, true≢false, _&&_}
 use Prim.Native.Nat.{ℕ, zero, suc, _+_, _-_, _≤_, _<_}
 use native.Mathlib.Numerals.{add-one}
-use native.Mathlib.Nat.{add-zero, sub-zero, suc-sub-suc}
+use native.Mathlib.Nat.{add-zero}
 use native.Mathlib.Omega.{arith}
 use lib.Dec.{eqb}
 use lib.ListN.{length, take, drop, getD, drop-of-length-le, length-drop}
-use lib.Seq.{drop-cons, drop-drop, take-all, take-suc}
+use lib.Seq.{drop-cons, drop-drop, take-add}
 use borrow.Author.Tests.{eq-eqb, ne-eqb, eqb-true, eqb-false}
 use Rattle.rules.specs.Reader.{Reader, all, span, sees, skip, prefix, mark}
 use Rattle.rules.specs.Laws.Bool.{and-l, and-r, and-i}
@@ -44,15 +44,15 @@ pub record Spanning (p : ℕ → Bool) (t : List ℕ) (at i : ℕ) : Type 0 wher
   pub took : span p (drop at t) .0 ≡ take (i - at) (drop at t) ++ span p (drop i t) .0
   pub rest : span p (drop at t) .1 ≡ span p (drop i t) .1
 
-append-nil : (a : List ℕ) → a ++ [] ≡ a
-append-nil [] = refl
-append-nil (x ∷ xs) = ap (λ z. x ∷ z) (append-nil xs)
+-- what stands from `at` to k, cut at i
+cut-at : (t : List ℕ) (at i k : ℕ) → at ≤ i → i ≤ k → take (k - at) (drop at t) ≡ take (i - at) (drop at t) ++ take (k - i) (drop i t)
+cut-at t at i k h g =
+    let a : k - at ≡ (i - at) + (k - i) = omega arith in
+    let b : at + (i - at) ≡ i = omega arith in
+    rw (a, take-add, drop-drop, b) refl
 
 getD-there : (t : List ℕ) (at i : ℕ) → at ≤ i → i < length t → take (suc i - at) (drop at t) ≡ take (i - at) (drop at t) ++ (getD t i 0 ∷ [])
-getD-there t zero i h k = rw (sub-zero, sub-zero) (take-suc t i 0 k)
-getD-there [] (suc at) i h k = absurd (omega arith)
-getD-there (x ∷ xs) (suc at) zero h k = absurd (omega arith)
-getD-there (x ∷ xs) (suc at) (suc i) h k = rw (suc-sub-suc, suc-sub-suc) (getD-there xs at i (omega arith) (omega arith))
+getD-there t at i h k = let e : suc i - i ≡ 1 = omega arith in cut-at t at i (suc i) h (omega arith) ∙ rw (e, drop-cons t i 0) refl
 
 module _ (p : ℕ → Bool) (t : List ℕ) (at : ℕ) where
   pub spanning-start : at ≤ length t → Spanning p t at at
@@ -81,6 +81,15 @@ module _ (p : ℕ → Bool) (t : List ℕ) (at : ℕ) where
     spanning-end h =
         let k : span p (drop i t) ≡ ([], drop i t) = rw (drop-of-length-le t h) refl in
         record { on = s .on; inside = s .inside; took = s .took ∙ rw (k, append-nil) refl; rest = s .rest ∙ rw k refl }
+
+    -- what is left of it is a stretch from i
+    pub spanning-then : {j : ℕ} → Spans p t i j → Spans p t at j
+    spanning-then {j} r = record {
+      on = omega (arith, s .on, r .on);
+      inside = r .inside;
+      took = s .took ∙ rw (r .took, cut-at t at i j (s .on) (r .on)) refl;
+      rest = s .rest ∙ r .rest;
+    }
 
 -- i bytes of the mark m stand at `at`
 pub record Matching (m t : List ℕ) (at i : ℕ) : Type 0 where
@@ -157,9 +166,9 @@ pub spans-not : (p : ℕ → Bool) (t : List ℕ) (i j : ℕ) → Spans p t i j 
 spans-not p t i j s n = not-true _ (λ a. n (omega (arith, s .inside, length-drop j t, ap length (sym (s .rest) ∙ all-span p (drop i t) a))))
 
 -- What a comparison of the end with the length says.
-pub all-says : (p : ℕ → Bool) (t : List ℕ) (j : ℕ) → Spans p t 0 j → eqb j (length t) ≡ all p t
-all-says p t j s = go (eqb j (length t)) refl
+pub all-says : (p : ℕ → Bool) (t : List ℕ) (i j : ℕ) → Spans p t i j → eqb j (length t) ≡ all p (drop i t)
+all-says p t i j s = go (eqb j (length t)) refl
   where
-    go : (c : Bool) → eqb j (length t) ≡ c → c ≡ all p t
-    go true e = sym (spans-all p t 0 j s (eqb-true j (length t) e))
-    go false e = sym (spans-not p t 0 j s (eqb-false j (length t) e))
+    go : (c : Bool) → eqb j (length t) ≡ c → c ≡ all p (drop i t)
+    go true e = sym (spans-all p t i j s (eqb-true j (length t) e))
+    go false e = sym (spans-not p t i j s (eqb-false j (length t) e))

@@ -1,7 +1,7 @@
 -- The byte sets, and what the scanning functions promise.
 use mathlib.Core.Path.{_≡_}
 use mathlib.Core.List.{List, [], _∷_}
-use mathlib.Core.Bool.{Bool, true, false, _&&_}
+use mathlib.Core.Bool.{Bool, true, false, not, _&&_}
 use Prim.Native.Nat.{ℕ, _+_, _-_, _≤_, _<_}
 use lib.Dec.{eqb}
 use lib.ListN.{length, take, drop}
@@ -45,6 +45,10 @@ classes = 0
 -- The byte c; `the` says the same of a character.
 abbrev pub byteIs : ℕ → ℕ → Bool
 byteIs c x = eqb x c
+
+-- Another byte than c; `but` says the same of a character.
+abbrev pub notByte : ℕ → ℕ → Bool
+notByte c x = not (eqb x c)
 
 -- The stretch of t from i by p goes to j.
 pub record Spans (p : ℕ → Bool) (t : List ℕ) (i j : ℕ) : Type 0 where

@@ -1,9 +1,10 @@
 // Byte classes, stretches and marks (document 01, section 1). This is the only crate that looks at a byte's class.
 ghost use mathlib.Core.Path.{_≡_};
-ghost use Prim.Native.Nat.{_≤_};
-ghost use lib.ListN.{length};
+ghost use Prim.Native.Nat.{_+_, _≤_};
+ghost use lib.ListN.{length, take, drop};
 ghost use Rattle.rules.specs.Reader.{all};
-ghost use Rattle.scan.specs.Sets.{member, byteIs, Spans, Sees, Starts, Skips};
+ghost use Rattle.rules.specs.Bytes.{ascii};
+ghost use Rattle.scan.specs.Sets.{member, byteIs, notByte, Spans, Sees, Starts, Skips};
 
 pub mod paths;
 
@@ -82,6 +83,78 @@ pub fn all(text: &[u8], set: Set) -> bool
     ensures { λ r. ⌜ r ≡ all (member set) (now (text .entry)) ⌝ }
 {
     span(text, 0, set) == text.len()
+}
+
+// Has a block of 32 bytes no byte c? Every byte is looked at, so that the compiler compares many at once.
+fn lacks(text: &[u8], at: usize, c: u8) -> bool
+    requires { ⌜ at + 32 ≤ length (now text) ⌝ }
+    ensures { λ r. ⌜ r ≡ all (notByte c) (take 32 (drop at (now (text .entry)))) ⌝ }
+{
+    let mut good = true;
+    let mut i: usize = 0;
+    while i < 32 {
+        good = good & (text[at + i] != c);
+        i += 1;
+    }
+    good
+}
+
+// The next place of the byte c from a place on, or the end: block by block.
+pub fn find(text: &[u8], at: usize, c: u8) -> usize
+    requires { ⌜ at ≤ length (now text) ⌝ }
+    ensures { λ r. ⌜ Spans (notByte c) (now (text .entry)) at r ⌝ }
+{
+    let mut i = at;
+    while 32 <= text.len() - i {
+        if !lacks(text, i, c) {
+            return near(text, i, c);
+        }
+        i += 32;
+    }
+    near(text, i, c)
+}
+
+// The next place of the byte c from a place on, or the end: byte by byte.
+fn near(text: &[u8], at: usize, c: u8) -> usize
+    requires { ⌜ at ≤ length (now text) ⌝ }
+    ensures { λ r. ⌜ Spans (notByte c) (now (text .entry)) at r ⌝ }
+{
+    let mut i = at;
+    while i < text.len() {
+        if text[i] == c {
+            return i;
+        }
+        i += 1;
+    }
+    i
+}
+
+// Are the bytes of a block of 32 all below 128?
+fn low(text: &[u8], at: usize) -> bool
+    requires { ⌜ at + 32 ≤ length (now text) ⌝ }
+    ensures { λ r. ⌜ r ≡ all ascii (take 32 (drop at (now (text .entry)))) ⌝ }
+{
+    let mut good = true;
+    let mut i: usize = 0;
+    while i < 32 {
+        good = good & (text[at + i] < 128);
+        i += 1;
+    }
+    good
+}
+
+// Are all bytes below 128?
+pub fn is_ascii(text: &[u8]) -> bool
+    ensures { λ r. ⌜ r ≡ all ascii (now (text .entry)) ⌝ }
+{
+    let mut i: usize = 0;
+    while 32 <= text.len() - i {
+        if !low(text, i) {
+            return false;
+        }
+        i += 32;
+    }
+    span(text, i, Set::Ascii) == text.len()
 }
 
 // Is there a byte of the set at a place?
