@@ -5,16 +5,14 @@ use mathlib.Core.Bool.{Bool, true, false, not, _&&_, true≢false}
 use Prim.Native.Nat.{ℕ, zero, suc, _+_, _-_, _≤_, _<_}
 use native.Mathlib.Omega.{arith}
 use lib.Dec.{leb}
-use lib.ListN.{length, take, drop, drop-of-length-le, length-drop}
+use lib.ListN.{length, take, drop}
 use lib.Seq.{length-take-le, take-length, take-take}
 use Rattle.rules.specs.Answer.{Answer, refused, accepted, _>>=_, _>>_, check}
 use Rattle.rules.specs.Reader.{bytes, all, but}
 use Rattle.rules.specs.Bytes.{ascii, isPath, join, parent, holds}
 use Rattle.rules.specs.Bundle.{Entry}
 use Rattle.rules.specs.Files.{View, File, absent, folder, file, view, contentOf, fetch, plain, opened, exists, hasCitation, upward, projectRoot}
-use Rattle.scan.specs.Sets.{Spans}
 use Rattle.scan.specs.Paths.{Parent}
-use Rattle.scan.specs.Laws.{span-all, all-span}
 use Rattle.bundle.specs.Find.{Finds, fileAt}
 use Rattle.bundle.specs.declared.Found.{Found}
 use Rattle.bundle.specs.declared.Found.the-variants.{Absent, Folder, File as At}
@@ -58,28 +56,17 @@ module _ (b : List ℕ) (es : List Entry) (p : List ℕ) {c : Bool} (e : c ≡ i
     fetch-file k q = record { says = fetch-found k ∙ rw q; inside = rw q at (k .inside) }
 
 -- A TEXT: 6.
-module _ (b : List ℕ) (s n r : ℕ) (h : s + n ≤ length b) (k : Spans ascii (take (s + n - s) (drop s b)) 0 r) where
-  part : take (s + n - s) (drop s b) ≡ take n (drop s b)
-  part = let z : s + n - s ≡ n = omega arith in rw z
+module _ (b : List ℕ) (s n : ℕ) {r : Bool} (h : s + n ≤ length b) (k : r ≡ all ascii (take (s + n - s) (drop s b))) where
+  part : all ascii (take n (drop s b)) ≡ r
+  part = let z : s + n - s ≡ n = omega arith in sym (rw z at k)
 
-  pub plain-yes : r ≡ length (take (s + n - s) (drop s b)) → Opens b (plain (take n (drop s b))) (Text s n)
+  pub plain-yes : r ≡ true → Opens b (plain (take n (drop s b))) (Text s n)
   unfolding plain check _>>_ answerOf
-  plain-yes e =
-      let t = take (s + n - s) (drop s b) in
-      let g : length t ≤ r = omega (arith, e) in
-      let a : all ascii t ≡ true = span-all ascii t (k .rest ∙ drop-of-length-le t g) in
-      record { says = rw (rw part at a); inside = h }
+  plain-yes e = record { says = rw (part ∙ e); inside = h }
 
-  pub plain-no : (r ≡ length (take (s + n - s) (drop s b)) → ⊥) → Opens b (plain (take n (drop s b))) (Refused 6)
+  pub plain-no : r ≡ false → Opens b (plain (take n (drop s b))) (Refused 6)
   unfolding plain check _>>_ answerOf
-  plain-no e = record { says = rw (rw part at (dirty (all ascii (take (s + n - s) (drop s b))) refl)); inside = omega arith }
-    where
-      dirty : (c : Bool) → all ascii (take (s + n - s) (drop s b)) ≡ c → all ascii (take (s + n - s) (drop s b)) ≡ false
-      dirty false q = q
-      dirty true q =
-          let t = take (s + n - s) (drop s b) in
-          let z : drop r t ≡ [] = sym (k .rest) ∙ all-span ascii t q in
-          absurd (omega (arith, e, k .inside, length-drop r t, ap length z))
+  plain-no e = record { says = rw (part ∙ e); inside = omega arith }
 
 pub text-inside : {b : List ℕ} {a : Answer (List ℕ)} {f : Opened} → Opens b a f → {s n : ℕ} → f ≡ Text s n → s + n ≤ length b
 text-inside k q = rw q at (k .inside)

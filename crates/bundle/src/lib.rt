@@ -16,7 +16,6 @@ mod walk;
 
 use entries::entry_at;
 use entries::word;
-use scan::Set;
 use scan::paths::is_path;
 use scan::paths::join;
 use scan::paths::parent;
@@ -106,7 +105,7 @@ fn plain(b: &[u8], start: usize, len: usize) -> Opened
 {
     let end = start + len;
     let part = &b[start..end];
-    if scan::span(part, 0, Set::Ascii) == part.len() {
+    if scan::is_ascii(part) {
         return Opened::Text {
             start: start,
             len: len,

@@ -3,7 +3,7 @@ use Rattle.bundle.proofs.plain.Statement.{statement}
 use Rattle.bundle.proofs.plain.Tie as tie
 use Rattle.bundle.proofs.plain.Reads as reads
 use Rattle.bundle.proofs.plain.Lts as lts
-use Rattle.scan.proofs.span.Reads as span-reads
+use Rattle.scan.proofs.is_ascii.Reads as is-ascii-reads
 use native.Mathlib.Omega.{arith}
 use Rattle.bundle.specs.Open.{plain-yes, plain-no}
 
@@ -19,16 +19,16 @@ part-part-start c = search needs
 part-part-end : tie.Need-part-part-end
 part-part-end c = search needs
 
-span-requires : tie.Need-span-requires
-span-requires c κs = search needs
+is-ascii-requires : tie.Need-is-ascii-requires
+is-ascii-requires c κs = search needs
 
 returns : tie.Need-returns
-returns c = plain-yes _ _ _ _ (c .before .before .before .before .pre) (c .before .span .ensures) (c .if1 .taken)
+returns c = plain-yes _ _ _ (c .before .before .before .before .pre) (c .before .is-ascii .ensures) (c .if1 .taken)
 
 returns-2 : tie.Need-returns-2
-returns-2 c = plain-no _ _ _ _ (c .before .before .before .before .pre) (c .before .span .ensures) (c .if1 .left)
+returns-2 c = plain-no _ _ _ (c .before .before .before .before .pre) (c .before .is-ascii .ensures) (c .if1 .left)
 
 pub plain-spec : {M : Type 1} → statement M
 plain-spec =
     tie.close
-    (tie.spec add-end sub-part part-part-start part-part-end span-requires returns returns-2)
+    (tie.spec add-end sub-part part-part-start part-part-end is-ascii-requires returns returns-2)
