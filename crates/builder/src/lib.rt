@@ -45,7 +45,7 @@ pub fn resolve(sheet: &[u8], path: &[u8]) -> Resolved
     if !sheet::check::check(sheet) {
         return Resolved { number: 3, kind: 0 };
     }
-    if !scan::all(path, scan::Set::Ascii) {
+    if !scan::is_ascii(path) {
         return Resolved { number: 6, kind: 0 };
     }
     let found = sheet::lookup::lookup(sheet, path, false);
@@ -108,7 +108,7 @@ pub fn resolve_string(sheet: &[u8], path: &[u8], out: &mut [u8]) -> Text
     if !sheet::check::check(sheet) {
         return no_text(out, 3);
     }
-    if !scan::all(path, scan::Set::Ascii) {
+    if !scan::is_ascii(path) {
         return no_text(out, 6);
     }
     let place = text_place(sheet::lookup::lookup(sheet, path, false));

@@ -4,7 +4,7 @@ use Rattle.builder.proofs.resolve.Tie as tie
 use Rattle.builder.proofs.resolve.Reads as reads
 use Rattle.builder.proofs.resolve.Lts as lts
 use Rattle.builder.proofs.kind.Reads as kind-reads
-use Rattle.scan.proofs.all.Reads as all-reads
+use Rattle.scan.proofs.is_ascii.Reads as is-ascii-reads
 use Rattle.sheet.proofs.check.check.Reads as check-reads
 use Rattle.sheet.proofs.lookup.lookup.Reads as lookup-reads
 use mathlib.Core.Path.{_≡_, refl, sym, ap, _∙_}
@@ -18,11 +18,11 @@ check-requires c κs = search needs
 returns : tie.Need-returns
 returns c = resolve-three _ _ (sym (c .before .check .ensures) ∙ not-true _ (c .if1 .taken))
 
-all-requires : tie.Need-all-requires
-all-requires c κs = search needs
+is-ascii-requires : tie.Need-is-ascii-requires
+is-ascii-requires c κs = search needs
 
 returns-2 : tie.Need-returns-2
-returns-2 c = resolve-six (c .before .before .before .before .before .before .args .sheet .now) _ (λ i. omega (arith, c .before .before .before .before .before .shared-slice-known .given i)) (sym (c .before .before .before .check .ensures) ∙ not-false _ (c .before .before .if1 .left)) (sym (c .before .all .ensures) ∙ not-true _ (c .if2 .taken))
+returns-2 c = resolve-six (c .before .before .before .before .before .before .args .sheet .now) _ (λ i. omega (arith, c .before .before .before .before .before .shared-slice-known .given i)) (sym (c .before .before .before .check .ensures) ∙ not-false _ (c .before .before .if1 .left)) (sym (c .before .is-ascii .ensures) ∙ not-true _ (c .if2 .taken))
 
 lookup-requires : tie.Need-lookup-requires
 lookup-requires c κs = is-sheet (c .before .before .before .before .before .before .args .sheet .now) (λ i. omega (arith, c .before .before .before .before .before .shared-slice-known .given i)) (sym (c .before .before .before .check .ensures) ∙ not-false _ (c .before .before .if1 .left))
@@ -31,7 +31,7 @@ kind-requires : tie.Need-kind-requires
 kind-requires c κs = search needs
 
 returns-3 : tie.Need-returns-3
-returns-3 c = resolve-kind (c .before .before .before .before .before .before .before .before .args .sheet .now) _ (λ i. omega (arith, c .before .before .before .before .before .before .before .shared-slice-known .given i)) (sym (c .before .before .before .before .before .check .ensures) ∙ not-false _ (c .before .before .before .before .if1 .left)) _ (c .before .lookup .ensures) _ (sym (c .before .before .before .all .ensures) ∙ not-false _ (c .before .before .if2 .left)) (c .kind .ensures)
+returns-3 c = resolve-kind (c .before .before .before .before .before .before .before .before .args .sheet .now) _ (λ i. omega (arith, c .before .before .before .before .before .before .before .shared-slice-known .given i)) (sym (c .before .before .before .before .before .check .ensures) ∙ not-false _ (c .before .before .before .before .if1 .left)) _ (c .before .lookup .ensures) _ (sym (c .before .before .before .is-ascii .ensures) ∙ not-false _ (c .before .before .if2 .left)) (c .kind .ensures)
 
 pub resolve-spec : {M : Type 1} → statement M
 resolve-spec =
@@ -39,7 +39,7 @@ resolve-spec =
     (tie.spec
     check-requires
     returns
-    all-requires
+    is-ascii-requires
     returns-2
     lookup-requires
     kind-requires

@@ -6,7 +6,7 @@ use Rattle.builder.proofs.resolve_string.Lts as lts
 use Rattle.builder.proofs.give.Reads as give-reads
 use Rattle.builder.proofs.no_text.Reads as no-text-reads
 use Rattle.builder.proofs.text_place.Reads as text-place-reads
-use Rattle.scan.proofs.all.Reads as all-reads
+use Rattle.scan.proofs.is_ascii.Reads as is-ascii-reads
 use Rattle.sheet.proofs.check.check.Reads as check-reads
 use Rattle.sheet.proofs.lookup.lookup.Reads as lookup-reads
 use mathlib.Core.Path.{_≡_, refl, sym, ap, _∙_}
@@ -26,8 +26,8 @@ same-length c = search needs
 returns : tie.Need-returns
 returns c = refused-text _ 3 _ _ _ _ _ (string-three _ _ _ (sym (c .before .before .before .before .before .check .ensures) ∙ not-true _ (c .before .before .before .before .if1 .taken))) refl (c .before .before .no-text .ensures)
 
-all-requires : tie.Need-all-requires
-all-requires c κs = search needs
+is-ascii-requires : tie.Need-is-ascii-requires
+is-ascii-requires c κs = search needs
 
 no-text-requires-2 : tie.Need-no-text-requires-2
 no-text-requires-2 c κs = search needs
@@ -36,7 +36,7 @@ same-length-2 : tie.Need-same-length-2
 same-length-2 c = search needs
 
 returns-2 : tie.Need-returns-2
-returns-2 c = refused-text _ 6 _ _ _ _ _ (string-six (c .before .before .before .before .before .before .before .before .before .before .before .args .sheet .now) _ _ (λ i. omega (arith, c .before .before .before .before .before .before .before .before .before .before .shared-slice-known .given i)) (sym (c .before .before .before .before .before .before .before .check .ensures) ∙ not-false _ (c .before .before .before .before .before .before .if1 .left)) (sym (c .before .before .before .before .before .all .ensures) ∙ not-true _ (c .before .before .before .before .if2 .taken))) refl (c .before .before .no-text2 .ensures)
+returns-2 c = refused-text _ 6 _ _ _ _ _ (string-six (c .before .before .before .before .before .before .before .before .before .before .before .args .sheet .now) _ _ (λ i. omega (arith, c .before .before .before .before .before .before .before .before .before .before .shared-slice-known .given i)) (sym (c .before .before .before .before .before .before .before .check .ensures) ∙ not-false _ (c .before .before .before .before .before .before .if1 .left)) (sym (c .before .before .before .before .before .is-ascii .ensures) ∙ not-true _ (c .before .before .before .before .if2 .taken))) refl (c .before .before .no-text2 .ensures)
 
 lookup-requires : tie.Need-lookup-requires
 lookup-requires c κs = is-sheet (c .before .before .before .before .before .before .before .args .sheet .now) (λ i. omega (arith, c .before .before .before .before .before .before .shared-slice-known .given i)) (sym (c .before .before .before .check .ensures) ∙ not-false _ (c .before .before .if1 .left))
@@ -62,7 +62,7 @@ same-length-3 c = search needs
 returns-3 : tie.Need-returns-3
 returns-3 c =
     let w = string-within (c .before .before .before .before .before .before .before .before .before .before .before .before .before .before .args .sheet .now) _ (λ i. omega (arith, c .before .before .before .before .before .before .before .before .before .before .before .before .before .shared-slice-known .given i)) (sym (c .before .before .before .before .before .before .before .before .before .before .check .ensures) ∙ not-false _ (c .before .before .before .before .before .before .before .before .before .if1 .left)) _ (c .before .before .before .before .before .before .lookup .ensures) _ _ (c .before .before .before .before .before .text-place .ensures) in
-    string-gave (c .before .before .before .before .before .before .before .before .before .before .before .before .before .before .args .sheet .now) _ (λ i. omega (arith, c .before .before .before .before .before .before .before .before .before .before .before .before .before .shared-slice-known .given i)) (sym (c .before .before .before .before .before .before .before .before .before .before .check .ensures) ∙ not-false _ (c .before .before .before .before .before .before .before .before .before .if1 .left)) _ (c .before .before .before .before .before .before .lookup .ensures) _ _ _ _ _ (sym (c .before .before .before .before .before .before .before .before .all .ensures) ∙ not-false _ (c .before .before .before .before .before .before .before .if2 .left)) (w .text) (c .before .before .give .ensures)
+    string-gave (c .before .before .before .before .before .before .before .before .before .before .before .before .before .before .args .sheet .now) _ (λ i. omega (arith, c .before .before .before .before .before .before .before .before .before .before .before .before .before .shared-slice-known .given i)) (sym (c .before .before .before .before .before .before .before .before .before .before .check .ensures) ∙ not-false _ (c .before .before .before .before .before .before .before .before .before .if1 .left)) _ (c .before .before .before .before .before .before .lookup .ensures) _ _ _ _ _ (sym (c .before .before .before .before .before .before .before .before .is-ascii .ensures) ∙ not-false _ (c .before .before .before .before .before .before .before .if2 .left)) (w .text) (c .before .before .give .ensures)
 
 pub resolve-string-spec : {M : Type 1} → statement M
 resolve-string-spec =
@@ -72,7 +72,7 @@ resolve-string-spec =
     no-text-requires
     same-length
     returns
-    all-requires
+    is-ascii-requires
     no-text-requires-2
     same-length-2
     returns-2
