@@ -1,6 +1,6 @@
 -- The walk over a bundle's entries: what is still to be read, and the paths so far.
 use mathlib.Core.Path.{_≡_, refl, sym, ap, _∙_}
-use mathlib.Core.List.{List, [], _∷_, _++_, append-assoc, map}
+use mathlib.Core.List.{List, [], _∷_, _++_, append-assoc, append-nil, map}
 use mathlib.Core.Bool.{Bool, true, false, not, _&&_, _||_, true≢false}
 use mathlib.Core.Option.{Option, none, some}
 use Prim.Native.Nat.{ℕ, zero, suc, _+_, _-_, _*_, _≤_, _<_}
@@ -134,10 +134,6 @@ module _ (x q : List ℕ) (k : ℕ) (o : List ℕ) (h : keeps x q k o ≡ true) 
 long-path : (p : List ℕ) → leb (length p) 255 ≡ false → isPath p ≡ false
 unfolding isPath
 long-path p h = rw (h, and-no (leb 1 (length p))) refl
-
-append-nil : (es : List Entry) → es ++ [] ≡ es
-append-nil [] = refl
-append-nil (e ∷ es) = ap (λ z. e ∷ z) (append-nil es)
 
 starts-no : {ok : Bool} {w : Walk} {P : Type 0} → Starts ok w → ok ≡ false → w .ok ≡ true → P
 starts-no s e h = absurd (true≢false (sym h ∙ s .says ∙ e))

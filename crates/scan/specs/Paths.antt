@@ -1,6 +1,6 @@
 -- Paths: how far a segment has been read, and what the functions of `paths` promise.
 use mathlib.Core.Path.{_≡_, refl, sym, ap, _∙_}
-use mathlib.Core.List.{List, [], _∷_, _++_, append-assoc}
+use mathlib.Core.List.{List, [], _∷_, _++_, append-assoc, append-nil}
 use mathlib.Core.Bool.{Bool, true, false, true≢false, not, _&&_, _||_}
 use lib.Dec.{leb, ltb, eqb, eqb·suc-suc}
 use lib.ListN.{length, take, drop, getD, set, length-set, drop-of-length-le, length-append, length-take, length-drop, List·getD-append}
@@ -290,10 +290,6 @@ climb-next p i xs x h e = rw (take-suc p i 0 h, append-assoc, e) refl
 parent-cons : (x : ℕ) (xs : List ℕ) (c : Bool) → holds "/" xs ≡ c → parent (x ∷ xs) ≡ elim c [ true ↦ x ∷ parent xs | false ↦ [] ]
 unfolding parent
 parent-cons x xs c q = rw (q, parent)
-
-append-nil : (a : List ℕ) → a ++ [] ≡ a
-append-nil [] = refl
-append-nil (x ∷ xs) = ap (λ z. x ∷ z) (append-nil xs)
 
 pub climbing-start : (p : List ℕ) → Climbing p 0 0
 climbing-start p = record { inside = omega arith; below = omega arith; rest = at (holds "/" p) refl }

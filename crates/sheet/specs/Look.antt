@@ -1,7 +1,7 @@
 -- Lookup of a path with dots.
 use mathlib.Core.Path.{_≡_, refl, sym, ap, subst, _∙_}
 use mathlib.Core.Bool.{Bool, true, false, not, _&&_, true≢false, false≢true}
-use mathlib.Core.List.{List, [], _∷_, _++_}
+use mathlib.Core.List.{List, [], _∷_, _++_, append-nil}
 use mathlib.Core.Option.{Option, none, some}
 use Prim.Native.Char.{code}
 use Prim.Native.Nat.{ℕ, zero, suc, _+_, _-_, _≤_, _<_}
@@ -19,7 +19,7 @@ use Rattle.rules.specs.Laws.Bool.{and-l, and-r}
 use Rattle.rules.specs.Laws.Texts.{all-append}
 use Rattle.rules.specs.Laws.Sheet.{get-good}
 use Rattle.scan.specs.Sets.{Spans}
-use Rattle.sheet.specs.Parts.{Part, slice, slice-part, append-nil}
+use Rattle.sheet.specs.Parts.{Part, slice, slice-part}
 use Rattle.sheet.specs.Order.{made, asked, asked-length, asked-slice, asked-dot, asked-getD, made-dot}
 use Rattle.sheet.specs.Find.{Gives, Level}
 use Rattle.sheet.specs.declared.lookup.Found.{Found}

@@ -51,7 +51,3 @@ pub part-of : (s : List ℕ) (i : ℕ) (x : List ℕ) (j : ℕ) → i ≤ length
 part-of s i x j h k e =
     let l : length s - i ≡ length x + (length s - j) = sym (length-drop i s) ∙ ap length e ∙ length-append x (drop j s) ∙ ap (λ z. length x + z) (length-drop j s) in
     record { ends = omega arith; inside = k; bytes = e }
-
-pub append-nil : (a : List ℕ) → a ++ [] ≡ a
-append-nil [] = refl
-append-nil (x ∷ xs) = ap (λ z. x ∷ z) (append-nil xs)

@@ -1,7 +1,7 @@
 -- Where a name is bound.
 use mathlib.Core.Path.{_≡_, refl, sym, ap, subst, _∙_}
 use mathlib.Core.Bool.{Bool, true, false, not, true≢false}
-use mathlib.Core.List.{List, [], _∷_, _++_, append-assoc}
+use mathlib.Core.List.{List, [], _∷_, _++_, append-assoc, append-nil}
 use Prim.Native.Nat.{ℕ, zero, suc, _+_, _-_, _≤_, _<_}
 use native.Mathlib.Omega.{arith}
 use lib.Dec.{eqb}
@@ -9,7 +9,7 @@ use lib.ListN.{length, take, drop, getD, length-append, length-take, length-drop
 use lib.Seq.{take-append-seam, take-add}
 use Rattle.rules.specs.Bytes.{less}
 use Rattle.rules.specs.Sheet.{Value, Records, end, rec, encode, fieldBytes, fieldMask, valueBytes, valueMask, set}
-use Rattle.sheet.specs.Parts.{Part, slice, part-split, part-slice, append-nil}
+use Rattle.sheet.specs.Parts.{Part, slice, part-split, part-slice}
 use Rattle.sheet.specs.Items.{At}
 use Rattle.sheet.specs.Order.{orderOf, order-less, order-three}
 

@@ -1,7 +1,7 @@
 -- Writing a record into a sheet's buffer.
 use mathlib.Core.Path.{_≡_, refl, sym, ap, subst, _∙_}
 use mathlib.Core.Bool.{Bool, true, false, cond, _||_}
-use mathlib.Core.List.{List, [], _∷_, _++_, append-assoc}
+use mathlib.Core.List.{List, [], _∷_, _++_, append-assoc, append-nil}
 use mathlib.Core.Logic.{⊎-elim, _⊎_, inl, inr}
 use mathlib.Core.Option.{Option, none, some}
 use Prim.Native.Nat.{ℕ, zero, suc, _+_, _-_, _*_, _/_, _%_, _≤_, _<_}
@@ -17,7 +17,7 @@ use Rattle.buffers.specs.Laws.{sets-append}
 use Rattle.rules.specs.Bytes.{less}
 use Rattle.rules.specs.Laws.Bool.{or-elim, or-false-l, or-false-r}
 use Rattle.rules.specs.Sheet.{Value, text, nothing, dictionary, Records, end, rec, encode, count, word16Bytes, fieldBytes, fieldMask, valueBytes, valueMask, set}
-use Rattle.sheet.specs.Parts.{Part, slice, part-slice, length-slice, append-nil}
+use Rattle.sheet.specs.Parts.{Part, slice, part-slice, length-slice}
 use Rattle.sheet.specs.Moves.{drop-take, slice-take, sets-before, take-stored}
 use Rattle.sheet.specs.Items.{count-le}
 use Rattle.sheet.specs.Order.{made, asked, asked-length, asked-getD}

@@ -1,6 +1,6 @@
 -- Laws of literals and expressions at a place of a text.
 use mathlib.Core.Path.{_≡_, refl, sym, ap, _∙_}
-use mathlib.Core.List.{List, [], _∷_, _++_, append-assoc}
+use mathlib.Core.List.{List, [], _∷_, _++_, append-assoc, append-nil}
 use mathlib.Core.Bool.{Bool, true, false, not, _&&_, true≢false}
 use mathlib.Core.Option.{Option}
 use Prim.Native.Char.{Char, code}
@@ -35,10 +35,6 @@ tail-part t k = take-all (length t - k) (drop k t) (rw length-drop (le-refl (len
 onto-onto : (a b : List ℕ) (r : List ℕ × List ℕ) → onto a (onto b r) ≡ onto (a ++ b) r
 unfolding onto
 onto-onto a b r = ap (λ z. (z, r .1)) (sym (append-assoc a b (r .0)))
-
-append-nil : (a : List ℕ) → a ++ [] ≡ a
-append-nil [] = refl
-append-nil (x ∷ xs) = ap (λ z. x ∷ z) (append-nil xs)
 
 -- Whether a byte is plain, by the two tests.
 plain-is : (x : ℕ) (c d : Bool) → the "\"" x ≡ c → the "\\" x ≡ d → plainByte x ≡ (not c && not d)

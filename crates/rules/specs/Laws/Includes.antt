@@ -1,7 +1,7 @@
 -- Every step of the includes obeys the law of steps; the middle text of a closed text is empty or ends in newline, and the run
 -- over a closed text ends where a new stretch begins.
 use mathlib.Core.Path.{_≡_, refl, sym, ap, _∙_}
-use mathlib.Core.List.{List, [], _∷_, _++_}
+use mathlib.Core.List.{List, [], _∷_, _++_, append-nil}
 use mathlib.Core.Bool.{Bool, true, false, not, _&&_, true≢false}
 use Prim.Native.Nat.{ℕ, zero, suc, _-_, _≤_, _<_}
 use native.Mathlib.Omega.{arith}
@@ -132,10 +132,6 @@ some-append (x ∷ xs) u h = tt
 nil-length : (u : List ℕ) → length u ≤ 0 → u ≡ []
 nil-length [] h = refl
 nil-length (x ∷ xs) h = absurd (omega arith)
-
-pub append-nil : (u : List ℕ) → u ++ [] ≡ u
-append-nil [] = refl
-append-nil (x ∷ xs) = ap (λ r. x ∷ r) (append-nil xs)
 
 -- What a step that goes to the end of the text writes and leaves.
 record Last (e : Emit) (h : List ℕ) : Type 0 where

@@ -1,6 +1,6 @@
 -- A list of passes beside one pass (01, demand 3).
 use mathlib.Core.Path.{_≡_, refl, sym, ap, _∙_}
-use mathlib.Core.List.{List, [], _∷_, _++_}
+use mathlib.Core.List.{List, [], _∷_, _++_, append-nil}
 use mathlib.Core.Bool.{Bool, true, false, _&&_, true≢false}
 use mathlib.Core.Option.{Option, none, some}
 use Prim.Native.Nat.{ℕ, _-_, _≤_, min}
@@ -24,7 +24,6 @@ use Rattle.rules.specs.Laws.Bool.{and-l, and-r, and-i, true-leb}
 use Rattle.rules.specs.Laws.Answer.{check-inv, check-true, bind-inv, bind-accepted, orRefuse-inv}
 use Rattle.rules.specs.Laws.Limit.{limited-text}
 use Rattle.rules.specs.Laws.Texts.{all-left, all-right}
-use Rattle.rules.specs.Laws.Includes.{append-nil}
 use Rattle.rules.specs.Laws.Middle.{middle-plain}
 use Rattle.rules.specs.Laws.Keep.{expansion-keeps}
 use Rattle.rules.specs.Laws.Sheet.{set-good, resolve-good, sheet-encode, sheet-good, Kept}
