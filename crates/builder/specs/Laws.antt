@@ -14,10 +14,10 @@ use Rattle.rules.specs.Reader.{all}
 use Rattle.rules.specs.Bytes.{ascii, word}
 use Rattle.rules.specs.Sheet.{Value, Records, encode, goodRecords, sheetOf, resolve, resolveString, textOf, kindOf}
 use Rattle.rules.specs.Calls.{zeros, padded, Kind, kindAnswer, resolveResult, resolveOf, Output, outputAnswer, resolveStringResult, resolveStringOf}
+use Rattle.rules.specs.Laws.Bool.{isSome, false-some}
 use Rattle.sheet.specs.declared.lookup.Found.{Found}
 use Rattle.sheet.specs.declared.lookup.Found.the-variants.{Missing, None, Text, Dictionary}
-use Rattle.sheet.specs.Check.{isSome}
-use Rattle.sheet.specs.Use.{all-bytes, Checked, checked, refused, to-look}
+use Rattle.sheet.specs.Use.{all-bytes, Checked, checked, to-look}
 use Rattle.sheet.specs.Order.{asked}
 use Rattle.sheet.specs.Find.{IsSheet, Gives, foundKind, foundText, gives-kind, gives-string}
 use Rattle.builder.specs.Text.{TextAt, Gave, Refuses}
@@ -32,7 +32,7 @@ is-sheet s b h = to-look (known s b h)
 -- KIND.
 pub resolve-three : (s p : List ℕ) → isSome (sheetOf s) ≡ false → resolveOf s p ≡ record { number = 3; kind = 0 }
 unfolding resolveOf resolveResult kindAnswer orRefuse _>>=_
-resolve-three s p h = rw (refused s h)
+resolve-three s p h = rw (false-some (sheetOf s) h)
 
 pub resolve-six : (s p : List ℕ) → ((i : ℕ) → getD s i 0 < 256) → isSome (sheetOf s) ≡ true → all ascii p ≡ false → resolveOf s p ≡ record { number = 6; kind = 0 }
 unfolding resolveOf resolveResult kindAnswer orRefuse check _>>=_ _>>_
@@ -66,7 +66,7 @@ within s x (Dictionary i j n) a b g t = rw (t .0, t .1) (record { on = omega ari
 -- TEXT.
 pub string-three : (s p : List ℕ) (n : ℕ) → isSome (sheetOf s) ≡ false → resolveStringOf s p n ≡ record { number = 3; len = 0; out = zeros n }
 unfolding resolveStringOf resolveStringResult outputAnswer orRefuse _>>=_
-string-three s p n h = rw (refused s h)
+string-three s p n h = rw (false-some (sheetOf s) h)
 
 pub string-six : (s p : List ℕ) (n : ℕ) → ((i : ℕ) → getD s i 0 < 256) → isSome (sheetOf s) ≡ true → all ascii p ≡ false → resolveStringOf s p n ≡ record { number = 6; len = 0; out = zeros n }
 unfolding resolveStringOf resolveStringResult outputAnswer orRefuse check _>>=_ _>>_

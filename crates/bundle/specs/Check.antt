@@ -13,7 +13,7 @@ use borrow.Author.Tests.{le-leb, lt-leb, eq-eqb, ne-eqb, leb-true, leb-false, no
 use Rattle.rules.specs.Bytes.{isPath, join, less}
 use Rattle.rules.specs.Layout.{Parser, bind, _>>=_, _>>_, pure, require, broken, remaining, word16, times}
 use Rattle.rules.specs.Bundle.{Entry, entry, goodPaths, pathsOf, bundleParser, bundleOf}
-use Rattle.rules.specs.Laws.Bool.{and-l, and-r, and-i, and-false-r}
+use Rattle.rules.specs.Laws.Bool.{and-l, and-r, and-i, and-false-r, isSome}
 use Rattle.scan.specs.Paths.{Joins}
 use Rattle.scan.specs.declared.paths.Joined.{Joined}
 use Rattle.bundle.specs.Entries.{entryOf, headAnswer, HeadAt, word-at, word-end}
@@ -24,11 +24,6 @@ use Rattle.bundle.specs.declared.walk.Walk.{Walk}
 and-no : (a : Bool) → (a && false) ≡ false
 and-no true = refl
 and-no false = refl
-
--- Is there anything.
-unfoldable pub isSome : Option (List Entry) → Bool
-isSome none = false
-isSome (some es) = true
 
 -- A path of an entry, where it has at most 255 bytes.
 pub record PathOf (b : List ℕ) (h : Head) (r : Joined) : Type 0 where

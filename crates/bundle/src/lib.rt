@@ -1,7 +1,7 @@
 // The bundle (document 01, section 1): its layout, its files and folders. This is the only crate that asks a bundle for a path.
 ghost use mathlib.Core.Path.{_≡_};
 ghost use Rattle.rules.specs.Bundle.{bundleOf};
-ghost use Rattle.bundle.specs.Check.{isSome};
+ghost use Rattle.rules.specs.Laws.Bool.{isSome};
 ghost use mathlib.Core.Bool.{true};
 ghost use Prim.Native.Nat.{_+_, _≤_};
 ghost use lib.ListN.{length, take, drop};

@@ -13,7 +13,7 @@ use Rattle.rules.specs.Reader.{all}
 use Rattle.rules.specs.Bytes.{ascii, word, nameByte, less}
 use Rattle.rules.specs.Layout.{Parser, bind, _>>=_, pure, broken, bit, byte, word16, field, fieldIf}
 use Rattle.rules.specs.Sheet.{Value, text, nothing, dictionary, Records, end, rec, value, oneRecord, someRecords, allRecords, levels, decode, before, goodValue, goodRecords, sheetOf}
-use Rattle.rules.specs.Laws.Bool.{and-l, and-r, and-i, not-true}
+use Rattle.rules.specs.Laws.Bool.{and-l, and-r, and-i, not-true, isSome}
 use Rattle.scan.specs.Sets.{Spans}
 use Rattle.scan.specs.Laws.{spans-all, spans-not}
 use Rattle.sheet.specs.Parts.{slice}
@@ -25,10 +25,6 @@ use Rattle.sheet.specs.declared.head.Item.{Item}
 use Rattle.sheet.specs.declared.check.Ends.{Ends}
 use Rattle.sheet.specs.declared.check.Ends.the-variants.{Bad, At}
 use Rattle.sheet.specs.declared.check.Last.{Last}
-
-unfoldable pub isSome : Option Records → Bool
-isSome none = false
-isSome (some r) = true
 
 -- a, if the test holds.
 unfoldable pub guard : {A : Type 0} → Bool → A → Option A
@@ -349,12 +345,12 @@ within-is (suc l) n b = run-is l (within l) (within-is l) nameByte n none b ∙ 
 
 -- THE SHEET.
 sheet-is : (b : List ℕ) (x : Option Records) → length b ≤ 65535 →
-    isSome (bind x (λ r. elim (goodRecords r word 6 && leb (length b) 65535) [ true ↦ some r | false ↦ none ])) ≡ isSome (bind x (allTest 6 word none))
+    isSome {A = Records} (bind x (λ r. elim (goodRecords r word 6 && leb (length b) 65535) [ true ↦ some r | false ↦ none ])) ≡ isSome (bind x (allTest 6 word none))
 unfolding bind isSome guard
 sheet-is b none h = refl
 sheet-is b (some r) h = rw (le-leb (length b) 65535 h, after-first r (goodRecords r word 6)) (go (goodRecords r word 6))
   where
-    go : (g : Bool) → isSome (elim (g && true) [ true ↦ some r | false ↦ none ]) ≡ isSome (guard g end)
+    go : (g : Bool) → isSome {A = Records} (elim (g && true) [ true ↦ some r | false ↦ none ]) ≡ isSome (guard g end)
     go true = refl
     go false = refl
 
@@ -363,12 +359,12 @@ pub check-is : (b : List ℕ) → length b ≤ 65535 → isSome (sheetOf b) ≡ 
 unfolding sheetOf decode
 check-is b h = sheet-is b (allRecords (levels 6) (length b) b) h ∙ sym (ap isSome (all-is 6 (within 6) (within-is 6) word (length b) none b))
 
-long-is : (b : List ℕ) (x : Option Records) → 65535 < length b → isSome (bind x (λ r. elim (goodRecords r word 6 && leb (length b) 65535) [ true ↦ some r | false ↦ none ])) ≡ false
+long-is : (b : List ℕ) (x : Option Records) → 65535 < length b → isSome {A = Records} (bind x (λ r. elim (goodRecords r word 6 && leb (length b) 65535) [ true ↦ some r | false ↦ none ])) ≡ false
 unfolding bind isSome
 long-is b none h = refl
 long-is b (some r) h = rw (lt-leb (length b) 65535 h) (go (goodRecords r word 6))
   where
-    go : (g : Bool) → isSome (elim (g && false) [ true ↦ some r | false ↦ none ]) ≡ false
+    go : (g : Bool) → isSome {A = Records} (elim (g && false) [ true ↦ some r | false ↦ none ]) ≡ false
     go true = refl
     go false = refl
 

@@ -1,18 +1,17 @@
 -- For callers: a sheet that was checked is the bytes of good records, and so is what a binding leaves.
 use mathlib.Core.Path.{_≡_, refl, sym, ap, _∙_}
-use mathlib.Core.Bool.{Bool, true, false, _&&_, false≢true}
+use mathlib.Core.Bool.{Bool, true, false, _&&_}
 use mathlib.Core.List.{List, [], _∷_}
-use mathlib.Core.Option.{Option, none, some}
+use mathlib.Core.Option.{some}
 use Prim.Native.Nat.{ℕ, zero, suc, _≤_, _<_}
 use lib.Dec.{ltb}
 use lib.ListN.{length, take, getD}
 use Rattle.rules.specs.Reader.{all}
 use Rattle.rules.specs.Bytes.{word}
 use Rattle.rules.specs.Sheet.{Value, Records, encode, sheetLength, goodRecords, goodValue, sheetOf, set}
-use Rattle.rules.specs.Laws.Bool.{and-i, ltb-true}
+use Rattle.rules.specs.Laws.Bool.{and-i, ltb-true, isSome, true-some}
 use Rattle.rules.specs.Laws.Sheet.{isByte, sheet-good, sheet-canonical, set-good}
 use Rattle.sheet.specs.Find.{IsSheet}
-use Rattle.sheet.specs.Check.{isSome}
 use Rattle.sheet.specs.Place.{HasRecords}
 use Rattle.sheet.specs.Write.{Bindable, BindsTo, Leaves}
 use Rattle.sheet.specs.declared.bind.Bound.{Bound}
@@ -33,23 +32,10 @@ pub record Checked (b : List ℕ) : Type 0 where
   pub short : length b ≤ 65535
 
 pub checked : (b : List ℕ) → all isByte b ≡ true → isSome (sheetOf b) ≡ true → Checked b
-unfolding isSome
-checked b a h = go (sheetOf b) refl h
-  where
-    go : (x : Option Records) → sheetOf b ≡ x → isSome x ≡ true → Checked b
-    go none e h = absurd (false≢true h)
-    go (some r) e h =
-        let g = sheet-good b r e in
-        record { r = r; of = e; bytes = sym (sheet-canonical b r a e); good = g .good; short = g .short }
-
--- A sheet that was refused has no records.
-pub refused : (b : List ℕ) → isSome (sheetOf b) ≡ false → sheetOf b ≡ none
-unfolding isSome
-refused b h = go (sheetOf b) h
-  where
-    go : (x : Option Records) → isSome x ≡ false → x ≡ none
-    go none h = refl
-    go (some r) h = absurd (false≢true (sym h))
+checked b a h =
+    let x = true-some (sheetOf b) h in
+    let g = sheet-good b (x .0) (x .1) in
+    record { r = x .0; of = x .1; bytes = sym (sheet-canonical b (x .0) a (x .1)); good = g .good; short = g .short }
 
 -- It can be looked up in, and be bound in.
 pub to-look : {b : List ℕ} → Checked b → IsSheet b

@@ -11,8 +11,9 @@ ghost use Prim.Native.Nat.{_≤_};
 ghost use lib.ListN.{length, drop};
 ghost use Rattle.rules.specs.Reader.{all};
 ghost use Rattle.rules.specs.Sheet.{sheetOf};
+ghost use Rattle.rules.specs.Laws.Bool.{isSome};
 ghost use Rattle.scan.specs.Sets.{member};
-ghost use Rattle.sheet.specs.Check.{isSome, body, within, suited, InSheet, InLast, lastIn, Enters, EndsAt};
+ghost use Rattle.sheet.specs.Check.{body, within, suited, InSheet, InLast, lastIn, Enters, EndsAt};
 
 // Where what was read ends, or that it breaks the layout.
 pub enum Ends {

@@ -1,7 +1,8 @@
--- Laws of Boolean tests, and of the tests of numbers.
+-- Laws of Boolean tests, of the tests of numbers, and of the test whether there is anything.
 use mathlib.Core.Path.{_≡_, refl, sym, _∙_}
 use mathlib.Core.Logic.{_≢_}
 use mathlib.Core.Bool.{Bool, true, false, _&&_, _||_, true≢false, false≢true}
+use mathlib.Core.Option.{Option, none, some}
 use Prim.Native.Nat.{ℕ, _≤_, _<_}
 use lib.Dec.{T, leb, ltb, eqb, leb→le, le→leb, ltb→lt, lt→ltb, nltb→le, eqb→eq, eqb-refl}
 
@@ -96,3 +97,21 @@ eqb-true a b e = rw e (T-true (eqb b b) (eqb-refl b))
 -- The test of equality is false: a is not b.
 pub false-eqb : (a b : ℕ) → eqb a b ≡ false → a ≢ b
 false-eqb a b h e = true≢false (sym (eqb-true a b e) ∙ h)
+
+module _ {A : Type 0} where
+  -- Is there anything.
+  unfoldable pub isSome : Option A → Bool
+  isSome none = false
+  isSome (some a) = true
+
+  -- There is: what it is.
+  pub true-some : (x : Option A) → isSome x ≡ true → (a : A) × (x ≡ some a)
+  unfolding isSome
+  true-some none h = absurd (false≢true h)
+  true-some (some a) h = (a, refl)
+
+  -- There is not.
+  pub false-some : (x : Option A) → isSome x ≡ false → x ≡ none
+  unfolding isSome
+  false-some none h = refl
+  false-some (some a) h = absurd (true≢false h)
