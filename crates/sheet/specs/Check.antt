@@ -8,14 +8,12 @@ use native.Mathlib.Omega.{arith}
 use lib.Dec.{eqb, leb}
 use lib.ListN.{length, take, drop, getD, length-drop, drop-of-length-le}
 use lib.Seq.{drop-cons}
-use borrow.Author.Tests.{eq-eqb, ne-eqb, eqb-true, eqb-false, le-leb, lt-leb}
+use borrow.Author.Tests.{ne-eqb, le-leb, lt-leb}
 use Rattle.rules.specs.Reader.{all}
 use Rattle.rules.specs.Bytes.{ascii, word, nameByte, less}
 use Rattle.rules.specs.Layout.{Parser, bind, _>>=_, pure, broken, bit, byte, word16, field, fieldIf}
 use Rattle.rules.specs.Sheet.{Value, text, nothing, dictionary, Records, end, rec, value, oneRecord, someRecords, allRecords, levels, decode, before, goodValue, goodRecords, sheetOf}
 use Rattle.rules.specs.Laws.Bool.{and-l, and-r, and-i, not-true, isSome}
-use Rattle.scan.specs.Sets.{Spans}
-use Rattle.scan.specs.Laws.{spans-all, spans-not}
 use Rattle.sheet.specs.Parts.{slice}
 use Rattle.sheet.specs.Heads.{Shape, plain, absent, holding, shapeKind, shapeText, shapeCount, shape, head, IsItem, Reads}
 use Rattle.sheet.specs.Order.{orderOf, asked, order-less}
@@ -373,13 +371,6 @@ unfolding sheetOf
 check-long b h = sym (long-is b (decode b) h)
 
 -- THE CODE'S STEPS.
-pub only-is : (p : ℕ → Bool) (t : List ℕ) (j : ℕ) → Spans p t 0 j → eqb j (length t) ≡ all p t
-only-is p t j s = go (eqb j (length t)) refl
-  where
-    go : (c : Bool) → eqb j (length t) ≡ c → c ≡ all p t
-    go true e = sym (spans-all p t 0 j s (eqb-true j (length t) e))
-    go false e = sym (spans-not p t 0 j s (eqb-false j (length t) e))
-
 module _ (p : ℕ → Bool) (s : List ℕ) (o : Item) (last : Last) where
   pub fits-name : all p (slice (o .from) (o .to) s) ≡ false → false ≡ suited p (lastIn s last) s o
   unfolding suited suits

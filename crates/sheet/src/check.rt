@@ -9,7 +9,6 @@ use scan::Set;
 ghost use mathlib.Core.Path.{_≡_};
 ghost use Prim.Native.Nat.{_≤_};
 ghost use lib.ListN.{length, drop};
-ghost use Rattle.rules.specs.Reader.{all};
 ghost use Rattle.rules.specs.Sheet.{sheetOf};
 ghost use Rattle.rules.specs.Laws.Bool.{isSome};
 ghost use Rattle.scan.specs.Sets.{member};
@@ -28,13 +27,6 @@ pub struct Last {
     pub to: usize,
 }
 
-// Are all bytes of the set?
-fn only(s: &[u8], set: Set) -> bool
-    ensures { λ r. ⌜ r ≡ all (member set) (now (s .entry)) ⌝ }
-{
-    scan::span(s, 0, set) == s.len()
-}
-
 // Is the name of the set's bytes and behind the last one, and the text of bytes below 128?
 fn suited(s: &[u8], o: Item, set: Set, last: Last) -> bool
     requires { ⌜ InSheet (now s) o × InLast (now s) last ⌝ }
@@ -42,12 +34,12 @@ fn suited(s: &[u8], o: Item, set: Set, last: Last) -> bool
 {
     let from = o.from;
     let to = o.to;
-    if !only(&s[from..to], set) {
+    if !scan::all(&s[from..to], set) {
         return false;
     }
     let at = o.at;
     let next = o.next;
-    if !only(&s[at..next], Set::Ascii) {
+    if !scan::is_ascii(&s[at..next]) {
         return false;
     }
     if !last.known {

@@ -3,45 +3,46 @@ use Rattle.sheet.proofs.check.suited.Statement.{statement}
 use Rattle.sheet.proofs.check.suited.Tie as tie
 use Rattle.sheet.proofs.check.suited.Reads as reads
 use Rattle.sheet.proofs.check.suited.Lts as lts
-use Rattle.sheet.proofs.check.only.Reads as only-reads
 use Rattle.sheet.proofs.lookup.order.Reads as order-reads
+use Rattle.scan.proofs.all.Reads as all-reads
+use Rattle.scan.proofs.is_ascii.Reads as is-ascii-reads
 use mathlib.Core.Path.{_≡_, sym, _∙_}
 use native.Mathlib.Omega.{arith}
 use borrow.Author.Tests.{not-true, not-false}
 use Rattle.sheet.specs.Check.{fits-name, fits-text, fits-first, fits-order}
 
-sub-only : tie.Need-sub-only
-sub-only c = search needs
+sub-all : tie.Need-sub-all
+sub-all c = search needs
 
-part-only-start : tie.Need-part-only-start
-part-only-start c = search needs
+part-all-start : tie.Need-part-all-start
+part-all-start c = search needs
 
-part-only-end : tie.Need-part-only-end
-part-only-end c = search needs
+part-all-end : tie.Need-part-all-end
+part-all-end c = search needs
 
-only-requires : tie.Need-only-requires
-only-requires c κs = search needs
+all-requires : tie.Need-all-requires
+all-requires c κs = search needs
 
 returns : tie.Need-returns
-returns c = fits-name _ _ _ _ (sym (c .before .only .ensures) ∙ not-true _ (c .if1 .taken))
+returns c = fits-name _ _ _ _ (sym (c .before .all .ensures) ∙ not-true _ (c .if1 .taken))
 
-sub-only-2 : tie.Need-sub-only-2
-sub-only-2 c = search needs
+sub-is-ascii : tie.Need-sub-is-ascii
+sub-is-ascii c = search needs
 
-part-only-start-2 : tie.Need-part-only-start-2
-part-only-start-2 c = search needs
+part-is-ascii-start : tie.Need-part-is-ascii-start
+part-is-ascii-start c = search needs
 
-part-only-end-2 : tie.Need-part-only-end-2
-part-only-end-2 c = search needs
+part-is-ascii-end : tie.Need-part-is-ascii-end
+part-is-ascii-end c = search needs
 
-only-requires-2 : tie.Need-only-requires-2
-only-requires-2 c κs = search needs
+is-ascii-requires : tie.Need-is-ascii-requires
+is-ascii-requires c κs = search needs
 
 returns-2 : tie.Need-returns-2
-returns-2 c = fits-text _ _ _ _ (sym (c .before .before .before .before .only .ensures) ∙ not-false _ (c .before .before .before .if1 .left)) (sym (c .before .only2 .ensures) ∙ not-true _ (c .if2 .taken))
+returns-2 c = fits-text _ _ _ _ (sym (c .before .before .before .before .all .ensures) ∙ not-false _ (c .before .before .before .if1 .left)) (sym (c .before .is-ascii .ensures) ∙ not-true _ (c .if2 .taken))
 
 returns-3 : tie.Need-returns-3
-returns-3 c = fits-first _ _ _ _ (sym (c .before .before .before .before .before .before .only .ensures) ∙ not-false _ (c .before .before .before .before .before .if1 .left)) (sym (c .before .before .before .only2 .ensures) ∙ not-false _ (c .before .before .if2 .left)) (not-true _ (c .if3 .taken))
+returns-3 c = fits-first _ _ _ _ (sym (c .before .before .before .before .before .before .all .ensures) ∙ not-false _ (c .before .before .before .before .before .if1 .left)) (sym (c .before .before .before .is-ascii .ensures) ∙ not-false _ (c .before .before .if2 .left)) (not-true _ (c .if3 .taken))
 
 sub-order : tie.Need-sub-order
 sub-order c = search needs
@@ -65,21 +66,21 @@ order-requires : tie.Need-order-requires
 order-requires c κs = search needs
 
 returns-4 : tie.Need-returns-4
-returns-4 c = fits-order _ _ _ _ (sym (c .before .before .before .before .before .before .before .before .before .only .ensures) ∙ not-false _ (c .before .before .before .before .before .before .before .before .if1 .left)) (sym (c .before .before .before .before .before .before .only2 .ensures) ∙ not-false _ (c .before .before .before .before .before .if2 .left)) (not-false _ (c .before .before .before .if3 .left)) (c .order .ensures)
+returns-4 c = fits-order _ _ _ _ (sym (c .before .before .before .before .before .before .before .before .before .all .ensures) ∙ not-false _ (c .before .before .before .before .before .before .before .before .if1 .left)) (sym (c .before .before .before .before .before .before .is-ascii .ensures) ∙ not-false _ (c .before .before .before .before .before .if2 .left)) (not-false _ (c .before .before .before .if3 .left)) (c .order .ensures)
 
 pub suited-spec : {M : Type 1} → statement M
 suited-spec =
     tie.close
     (tie.spec
-    sub-only
-    part-only-start
-    part-only-end
-    only-requires
+    sub-all
+    part-all-start
+    part-all-end
+    all-requires
     returns
-    sub-only-2
-    part-only-start-2
-    part-only-end-2
-    only-requires-2
+    sub-is-ascii
+    part-is-ascii-start
+    part-is-ascii-end
+    is-ascii-requires
     returns-2
     returns-3
     sub-order
