@@ -11,7 +11,7 @@ use lib.ListN.{length, take, drop, getD, drop-of-length-le, length-drop}
 use lib.Seq.{drop-cons, drop-drop, take-add}
 use borrow.Author.Tests.{eq-eqb, ne-eqb, eqb-true, eqb-false}
 use Rattle.rules.specs.Reader.{Reader, all, span, sees, skip, prefix, mark}
-use Rattle.rules.specs.Laws.Bool.{and-l, and-r, and-i}
+use Rattle.rules.specs.Laws.Bool.{and-l, and-r, and-i, not-true}
 use Rattle.scan.specs.Sets.{Spans, Sees, Starts, Skips}
 
 module _ (p : ℕ → Bool) (t : List ℕ) (i : ℕ) where
@@ -154,10 +154,6 @@ pub all-span : (p : ℕ → Bool) (t : List ℕ) → all p t ≡ true → span p
 unfolding span all
 all-span p [] h = refl
 all-span p (x ∷ xs) h = all-none p x xs h (all-span p xs (and-r (p x) (all p xs) h))
-
-not-true : (c : Bool) → (c ≡ true → ⊥) → c ≡ false
-not-true true h = absurd (h refl)
-not-true false h = refl
 
 pub spans-all : (p : ℕ → Bool) (t : List ℕ) (i j : ℕ) → Spans p t i j → j ≡ length t → all p (drop i t) ≡ true
 spans-all p t i j s e = span-all p (drop i t) (s .rest ∙ drop-of-length-le t {i = j} (omega arith))
