@@ -1,4 +1,4 @@
--- Blocks: n bytes looked at in one step.
+-- Every byte looked at, with no early end: of a whole text, and of a block of n bytes.
 use mathlib.Core.Path.{_≡_, refl, sym, ap, _∙_}
 use mathlib.Core.List.{List, [], _∷_, _++_}
 use mathlib.Core.Bool.{Bool, true, false, _&&_, and-assoc, and-true}
@@ -6,41 +6,46 @@ use Prim.Native.Nat.{ℕ, zero, suc, _+_, _≤_, _<_}
 use native.Mathlib.Numerals.{add-one}
 use native.Mathlib.Nat.{add-zero}
 use native.Mathlib.Omega.{arith}
-use lib.Dec.{eqb}
-use lib.ListN.{length, take, drop, getD, length-drop, take-append-drop}
-use lib.Seq.{drop-cons, drop-drop, getD-drop, take-suc}
+use lib.ListN.{length, take, drop, getD, length-drop}
+use lib.Seq.{drop-cons, getD-drop, getD-take, length-take-le, take-all, take-suc}
 use Rattle.rules.specs.Reader.{all}
 use Rattle.rules.specs.Laws.Bool.{and-l, and-r}
-use Rattle.scan.specs.Sets.{Spans}
-use Rattle.scan.specs.Laws.{Spanning, spanning-on, all-says}
+use Rattle.scan.specs.Laws.{Spanning, spanning-on}
 
-all-both : (p : ℕ → Bool) (a b : List ℕ) → all p (a ++ b) ≡ (all p a && all p b)
-unfolding all
-all-both p [] b = refl
-all-both p (x ∷ xs) b = ap (λ z. p x && z) (all-both p xs b) ∙ sym (and-assoc (p x) (all p xs) (all p b))
+-- good says whether the first i bytes of u all have p
+pub record Told (p : ℕ → Bool) (u : List ℕ) (i : ℕ) (good : Bool) : Type 0 where
+  pub inside : i ≤ length u
+  pub says : good ≡ all p (take i u)
 
--- good says of i bytes from `at` on, of n, whether all have p
-pub record Block (p : ℕ → Bool) (n : ℕ) (t : List ℕ) (at i : ℕ) (good : Bool) : Type 0 where
-  pub short : i ≤ n
-  pub says : good ≡ all p (take i (drop at t))
-
-module _ (p : ℕ → Bool) (n : ℕ) (t : List ℕ) (at : ℕ) where
-  pub block-start : Block p n t at 0 true
+module _ (p : ℕ → Bool) where
+  all-last : (a : List ℕ) (x : ℕ) → all p (a ++ (x ∷ [])) ≡ (all p a && p x)
   unfolding all
-  block-start = record { short = omega arith; says = refl }
+  all-last [] x = and-true (p x)
+  all-last (y ∷ ys) x = ap (λ z. p y && z) (all-last ys x) ∙ sym (and-assoc (p y) (all p ys) (p x))
 
-  module _ (i : ℕ) {good : Bool} (b : Block p n t at i good) where
-    pub block-on : at + n ≤ length t → i < n → Block p n t at (i + 1) (good && p (getD t (at + i) 0))
+  module _ (u : List ℕ) where
+    pub told-start : Told p u 0 true
     unfolding all
-    block-on h k =
-        let l : i < length (drop at t) = simp length-drop (omega arith) in
-        record {
-          short = omega arith;
-          says = rw (add-one, take-suc (drop at t) i 0, getD-drop, all-both, ← b .says) (ap (λ z. good && z) (sym (and-true _)));
-        }
+    told-start = record { inside = omega arith; says = refl }
 
-    pub block-end : n ≤ i → good ≡ all p (take n (drop at t))
-    block-end h = let e : i ≡ n = omega (arith, b .short) in rw e at (b .says)
+    module _ (i : ℕ) {good : Bool} (s : Told p u i good) where
+      pub told-on : i < length u → Told p u (i + 1) (good && p (getD u i 0))
+      told-on h = record { inside = omega arith; says = rw (s .says, add-one, take-suc u i 0) (sym (all-last (take i u) (getD u i 0))) }
+
+      pub told-end : length u ≤ i → good ≡ all p u
+      told-end h = s .says ∙ rw (take-all i u h)
+
+  -- A block: n bytes from `at` on.
+  module _ (n : ℕ) (t : List ℕ) (at : ℕ) (fits : at + n ≤ length t) where
+    block-length : length (take n (drop at t)) ≡ n
+    block-length = length-take-le n (drop at t) (simp length-drop (omega arith))
+
+    module _ (i : ℕ) {good : Bool} (s : Told p (take n (drop at t)) i good) where
+      pub block-on : i < n → Told p (take n (drop at t)) (i + 1) (good && p (getD t (at + i) 0))
+      block-on h = rw (← getD-drop at t i 0, ← getD-take n (drop at t) i 0 h) (told-on (take n (drop at t)) i s (omega (arith, block-length)))
+
+      pub block-end : n ≤ i → good ≡ all p (take n (drop at t))
+      block-end h = told-end (take n (drop at t)) i s (omega (arith, block-length))
 
 -- A block of bytes that all have p moves a stretch on.
 module _ (p : ℕ → Bool) (t : List ℕ) (at : ℕ) where
@@ -53,25 +58,3 @@ module _ (p : ℕ → Bool) (t : List ℕ) (at : ℕ) where
       let b : (x && all p (take n (drop (i + 1) t))) ≡ true = rw add-one (rw (drop-cons t i 0) at a) in
       let e : i + suc n ≡ i + 1 + n = omega arith in
       rw e (spanning-block n (i + 1) (spanning-on p t at i s l (and-l x _ b)) (omega arith) (and-r x _ b))
-
--- the bytes before i all have p
-pub record Passed (p : ℕ → Bool) (t : List ℕ) (i : ℕ) : Type 0 where
-  pub inside : i ≤ length t
-  pub same : all p t ≡ all p (drop i t)
-
-module _ (p : ℕ → Bool) (t : List ℕ) where
-  pub passed-start : Passed p t 0
-  passed-start = record { inside = omega arith; same = refl }
-
-  module _ (i : ℕ) (s : Passed p t i) where
-    cut : (n : ℕ) → all p t ≡ (all p (take n (drop i t)) && all p (drop (i + n) t))
-    cut n = s .same ∙ ap (all p) (sym (take-append-drop n (drop i t))) ∙ all-both p (take n (drop i t)) (drop n (drop i t)) ∙ rw drop-drop refl
-
-    pub passed-on : (n : ℕ) → i + n ≤ length t → all p (take n (drop i t)) ≡ true → Passed p t (i + n)
-    passed-on n h e = record { inside = h; same = cut n ∙ rw e refl }
-
-    pub passed-off : (n : ℕ) → all p (take n (drop i t)) ≡ false → false ≡ all p t
-    passed-off n e = sym (cut n ∙ rw e refl)
-
-    pub passed-end : {j : ℕ} → Spans p t i j → eqb j (length t) ≡ all p t
-    passed-end {j} r = all-says p t i j r ∙ sym (s .same)

@@ -162,9 +162,9 @@ pub spans-not : (p : ℕ → Bool) (t : List ℕ) (i j : ℕ) → Spans p t i j 
 spans-not p t i j s n = not-true _ (λ a. n (omega (arith, s .inside, length-drop j t, ap length (sym (s .rest) ∙ all-span p (drop i t) a))))
 
 -- What a comparison of the end with the length says.
-pub all-says : (p : ℕ → Bool) (t : List ℕ) (i j : ℕ) → Spans p t i j → eqb j (length t) ≡ all p (drop i t)
-all-says p t i j s = go (eqb j (length t)) refl
+pub all-says : (p : ℕ → Bool) (t : List ℕ) (j : ℕ) → Spans p t 0 j → eqb j (length t) ≡ all p t
+all-says p t j s = go (eqb j (length t)) refl
   where
-    go : (c : Bool) → eqb j (length t) ≡ c → c ≡ all p (drop i t)
-    go true e = sym (spans-all p t i j s (eqb-true j (length t) e))
-    go false e = sym (spans-not p t i j s (eqb-false j (length t) e))
+    go : (c : Bool) → eqb j (length t) ≡ c → c ≡ all p t
+    go true e = sym (spans-all p t 0 j s (eqb-true j (length t) e))
+    go false e = sym (spans-not p t 0 j s (eqb-false j (length t) e))

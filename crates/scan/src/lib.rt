@@ -129,32 +129,17 @@ fn near(text: &[u8], at: usize, c: u8) -> usize
     i
 }
 
-// Are the bytes of a block of 32 all below 128?
-fn low(text: &[u8], at: usize) -> bool
-    requires { ⌜ at + 32 ≤ length (now text) ⌝ }
-    ensures { λ r. ⌜ r ≡ all ascii (take 32 (drop at (now (text .entry)))) ⌝ }
-{
-    let mut good = true;
-    let mut i: usize = 0;
-    while i < 32 {
-        good = good & (text[at + i] < 128);
-        i += 1;
-    }
-    good
-}
-
-// Are all bytes below 128?
+// Are all bytes below 128? Every byte is looked at, as in `lacks`.
 pub fn is_ascii(text: &[u8]) -> bool
     ensures { λ r. ⌜ r ≡ all ascii (now (text .entry)) ⌝ }
 {
+    let mut good = true;
     let mut i: usize = 0;
-    while 32 <= text.len() - i {
-        if !low(text, i) {
-            return false;
-        }
-        i += 32;
+    while i < text.len() {
+        good = good & (text[i] < 128);
+        i += 1;
     }
-    span(text, i, Set::Ascii) == text.len()
+    good
 }
 
 // Is there a byte of the set at a place?

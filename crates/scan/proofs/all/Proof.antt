@@ -11,7 +11,7 @@ span-requires : tie.Need-span-requires
 span-requires c κs = search needs
 
 returns : tie.Need-returns
-returns c = all-says _ _ _ _ (c .span .ensures)
+returns c = all-says _ _ _ (c .span .ensures)
 
 pub all-spec : {M : Type 1} → statement M
 all-spec = tie.close (tie.spec span-requires returns)

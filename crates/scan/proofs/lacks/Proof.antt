@@ -4,17 +4,18 @@ use Rattle.scan.proofs.lacks.Tie as tie
 use Rattle.scan.proofs.lacks.Reads as reads
 use Rattle.scan.proofs.lacks.Lts as lts
 use Prim.Native.Nat.{_-_}
+use lib.ListN.{take, drop}
 use Rattle.scan.specs.Sets.{notByte}
-use Rattle.scan.specs.Blocks.{Block, block-start, block-on, block-end}
+use Rattle.scan.specs.Blocks.{Told, told-start, block-on, block-end}
 
 abbrev Inv-loop : tie.InvT-loop
-Inv-loop text at c good₀ i₀ good i = Block (notByte c) 32 text at i good
+Inv-loop text at c good₀ i₀ good i = Told (notByte c) (take 32 (drop at text)) i good
 
 abbrev μ-loop : tie.MeasureT-loop
 μ-loop text at c good₀ i₀ good i = 32 - i
 
 loop-holds : tie.Need-loop-holds Inv-loop μ-loop
-loop-holds c = block-start _ _ _ _
+loop-holds c = told-start _ _
 
 add-good : tie.Need-add-good Inv-loop μ-loop
 add-good c = search needs
@@ -29,10 +30,10 @@ loop-less : tie.Need-loop-less Inv-loop μ-loop
 loop-less c = search needs
 
 loop-again : tie.Need-loop-again Inv-loop μ-loop
-loop-again c = block-on _ _ _ _ _ (c .before .before .loop .inv) (search needs) (search needs)
+loop-again c = block-on _ _ _ _ (c .before .before .before .pre) _ (c .before .before .loop .inv) (search needs)
 
 returns : tie.Need-returns Inv-loop μ-loop
-returns c = block-end _ _ _ _ _ (c .before .loop .inv) (search needs)
+returns c = block-end _ _ _ _ (c .before .before .pre) _ (c .before .loop .inv) (search needs)
 
 pub lacks-spec : {M : Type 1} → statement M
 lacks-spec =
