@@ -123,7 +123,8 @@ impl Run<'_> {
         }
         let Some((path, end)) = quoted(behind, blanks + 1) else { return Ok(self.unended()) };
         let language = quoted(behind, end).map_or(&b""[..], |(language, _)| language);
-        let content = plain(self.file(&joined(&self.root(folder), trimmed(path)))?)?;
+        let path = joined(&project_root(self.files, folder), trimmed(path));
+        let content = plain(self.file(&path)?)?;
         self.seen.sources += 1;
         let last = if content.ends_with(b"\n") { &b""[..] } else { b"\n" };
         self.put(&[b"```", language, b"\n", &content, last, b"```\n"].concat())?;
@@ -152,20 +153,20 @@ impl Run<'_> {
             Found::Folder | Found::Absent => Err(5),
         }
     }
+}
 
-    /// The nearest folder upward that has `CITATION.cff`, else the folder itself.
-    fn root(&self, folder: &[u8]) -> Vec<u8> {
-        let mut above = folder;
-        loop {
-            let citation = joined(above, CITATION);
-            if citation.len() <= LONGEST_PATH && find(self.files, &citation) != Found::Absent {
-                return above.to_vec();
-            }
-            if above.is_empty() {
-                return folder.to_vec();
-            }
-            above = parent(above);
+/// The nearest folder upward that has `CITATION.cff`, else the folder itself.
+pub fn project_root(files: &Files, folder: &[u8]) -> Vec<u8> {
+    let mut above = folder;
+    loop {
+        let citation = joined(above, CITATION);
+        if citation.len() <= LONGEST_PATH && find(files, &citation) != Found::Absent {
+            return above.to_vec();
         }
+        if above.is_empty() {
+            return folder.to_vec();
+        }
+        above = parent(above);
     }
 }
 
