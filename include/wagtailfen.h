@@ -5,9 +5,10 @@
  * not null will do. A buffer that is written (out) overlaps no other slice of the call.
  *
  * Each answer begins with a number: 0 accepted, else the refusal of document 01, section 8:
- *   2 bundle breaks its layout        6 byte from 128 in a text
- *   3 sheet breaks its layout        11 output buffer too short
- *   4 path rule broken
+ *   2 bundle breaks its layout        6 byte from 128 in a text or opened file
+ *   3 sheet breaks its layout         7 seventh include level
+ *   4 path or folder rule broken     11 output buffer too short
+ *   5 file absent
  * Refused: the other fields are 0 and every byte of a buffer that is written is 0.
  */
 #ifndef WAGTAILFEN_H
@@ -29,13 +30,13 @@ struct wf_resolved {
 /* Refusals 3, 6. */
 struct wf_resolved wf_resolve(const uint8_t *sheet, size_t sheet_len, const uint8_t *path, size_t path_len);
 
-/* The text that a path names in a sheet, empty unless its kind is text: the first len bytes of out, and 0 behind them. */
+/* A text that a call writes: the first len bytes of out, and 0 behind them. */
 struct wf_text {
     uint8_t number;
     size_t len;
 };
 
-/* Refusals 3, 6, 11. */
+/* The text that a path names in a sheet, empty unless its kind is text. Refusals 3, 6, 11. */
 struct wf_text wf_resolve_string(const uint8_t *sheet, size_t sheet_len, const uint8_t *path, size_t path_len,
                                  uint8_t *out, size_t out_len);
 
@@ -50,6 +51,12 @@ struct wf_found {
 
 /* Refusals 2, 4. */
 struct wf_found wf_find_file(const uint8_t *bundle, size_t bundle_len, const uint8_t *path, size_t path_len);
+
+/* The text with its marks #include and #source-include resolved from the files of the bundle. folder is the folder of the
+ * bundle where the text stands, or empty. Refusals 2, 4, 6 for the arguments; then whichever comes first in reading: 11 for
+ * what is written, and 4, 5, 7, 6, in this order, for a file. */
+struct wf_text wf_resolve_includes(const uint8_t *bundle, size_t bundle_len, const uint8_t *folder, size_t folder_len,
+                                   const uint8_t *text, size_t text_len, uint8_t *out, size_t out_len);
 
 #ifdef __cplusplus
 }

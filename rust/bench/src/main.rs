@@ -1,5 +1,6 @@
 //! Times the proved calls on the same inputs as the Rust reference, or alone where it has no such call.
 
+mod includes;
 mod timing;
 
 use oracle::{Context, Files, Tree, Value, bundle, sheet};
@@ -27,6 +28,7 @@ fn main() {
     println!("\nfind_file (the reference has no such call)");
     println!(" entries   bytes  path                       here     check      rest");
     SIZES.into_iter().for_each(files);
+    includes::table();
 }
 
 /// Bindings of ten seconds each.

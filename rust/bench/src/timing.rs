@@ -2,6 +2,9 @@
 use std::time::{Duration, Instant};
 
 const REPETITIONS: usize = 100;
+/// Long calls are repeated fewer times: up to this time for a row, but not fewer times than this.
+const LIMIT: Duration = Duration::from_secs(3);
+const FEWEST: usize = 3;
 /// How long a repetition takes at least.
 const STRETCH: Duration = Duration::from_millis(1);
 
@@ -12,7 +15,11 @@ type Call<'a> = &'a mut dyn FnMut();
 pub fn times<const N: usize>(mut calls: [Call; N]) -> [f64; N] {
     let rounds = calls.each_mut().map(rounds);
     let mut least = [f64::INFINITY; N];
-    for _ in 0..REPETITIONS {
+    let started = Instant::now();
+    for repetition in 0..REPETITIONS {
+        if repetition >= FEWEST && started.elapsed() > LIMIT {
+            break;
+        }
         for ((call, &rounds), least) in calls.iter_mut().zip(&rounds).zip(&mut least) {
             let took = stretch(call, rounds).as_secs_f64() * 1e9 / f64::from(rounds);
             *least = least.min(took);

@@ -31,7 +31,7 @@ pub fn files(rng: &mut Rng) -> Files {
 }
 
 /// Is the path free: neither there, nor a folder, nor inside a file.
-fn fits(files: &Files, path: &[u8]) -> bool {
+pub fn fits(files: &Files, path: &[u8]) -> bool {
     find(files, path) == Found::Absent && folders(path).all(|folder| !files.contains_key(folder))
 }
 
@@ -52,7 +52,7 @@ fn path(rng: &mut Rng) -> Vec<u8> {
     if path.len() <= LONGEST_PATH { path } else { segment(rng) }
 }
 
-fn segment(rng: &mut Rng) -> Vec<u8> {
+pub fn segment(rng: &mut Rng) -> Vec<u8> {
     if rng.one_in(5) {
         let mut segment = rng.string(PATH, 3);
         segment.push(b'z');
@@ -62,7 +62,7 @@ fn segment(rng: &mut Rng) -> Vec<u8> {
 }
 
 /// The path with more letters behind it, in one or many segments, n bytes long.
-fn stretched(mut path: Vec<u8>, rng: &mut Rng, n: usize) -> Vec<u8> {
+pub fn stretched(mut path: Vec<u8>, rng: &mut Rng, n: usize) -> Vec<u8> {
     let every = *rng.pick(&[2, 7, 1000]);
     while path.len() < n {
         let part = path.len() % every == 1 && path.len() + 1 < n && !path.ends_with(b"/");
@@ -109,7 +109,7 @@ fn present(files: &Files, rng: &mut Rng) -> Vec<u8> {
     if folders.is_empty() || rng.one_in(2) { file.clone() } else { rng.pick(&folders).to_vec() }
 }
 
-fn changed(mut path: Vec<u8>, rng: &mut Rng) -> Vec<u8> {
+pub fn changed(mut path: Vec<u8>, rng: &mut Rng) -> Vec<u8> {
     let i = rng.below(path.len() + 1);
     match rng.below(9) {
         0 => path.push(b'/'),
@@ -125,7 +125,7 @@ fn changed(mut path: Vec<u8>, rng: &mut Rng) -> Vec<u8> {
     path
 }
 
-fn edge(rng: &mut Rng) -> Vec<u8> {
+pub fn edge(rng: &mut Rng) -> Vec<u8> {
     if rng.one_in(2) {
         return rng
             .pick(&["", "/", ".", "..", "...", "/a", "a/", "a//b", "./a", "../a", "a/.", "a/.."])

@@ -13,6 +13,7 @@ mod modes;
 mod rng;
 mod sheets;
 mod shrink;
+mod texts;
 
 use case::Case;
 use modes::Mode;
@@ -117,6 +118,9 @@ fn run_mode(mode: &mut dyn Mode, options: &Options) -> bool {
     }
     let counts = counts.iter().map(|(label, n)| format!("{label} {n}")).collect::<Vec<_>>().join(", ");
     println!("{}: {cases} cases in {:.1} s: {counts}", mode.name(), started.elapsed().as_secs_f64());
+    if let Some(summary) = mode.summary() {
+        println!("{summary}");
+    }
     true
 }
 

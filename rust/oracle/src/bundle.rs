@@ -113,7 +113,7 @@ pub struct Unpacked {
 }
 
 impl Unpacked {
-    /// Unpacks the files into a fresh folder below the system's folder for temporary files.
+    /// Unpacks the files into a fresh folder, in memory where the system has a folder for that.
     pub fn new(files: &Files) -> io::Result<Unpacked> {
         let unpacked = Unpacked { root: fresh_folder()? };
         for (path, content) in files {
@@ -151,12 +151,18 @@ fn utf8(path: &[u8]) -> io::Result<&str> {
     str::from_utf8(path).map_err(io::Error::other)
 }
 
+/// Where Linux keeps files in memory; else the system's folder for temporary files.
+fn temporary() -> PathBuf {
+    let memory = Path::new("/dev/shm");
+    if memory.is_dir() { memory.to_path_buf() } else { env::temp_dir() }
+}
+
 /// An empty folder above which no `CITATION.cff` stands.
 fn fresh_folder() -> io::Result<PathBuf> {
     static NEXT: AtomicU64 = AtomicU64::new(0);
     loop {
         let number = NEXT.fetch_add(1, Ordering::Relaxed);
-        let folder = env::temp_dir().join(format!("wagtailfen-{}-{number}", process::id()));
+        let folder = temporary().join(format!("wagtailfen-{}-{number}", process::id()));
         match fs::create_dir(&folder) {
             Ok(()) => return no_citation_above(folder),
             Err(e) if e.kind() == io::ErrorKind::AlreadyExists => {}

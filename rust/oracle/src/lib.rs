@@ -3,12 +3,15 @@
 //! - `resolve`, `resolve_string`, or a `Context` that is built once for many lookups: in this process.
 //! - `resolve_includes`, `preprocess_typst`, `parse_definitions`: in this process, the files unpacked into a fresh folder.
 //!   They can hang, or overflow the stack: `child` runs them in a process of their own, with a time limit.
+//! - `resolve_includes_below`: the same with files that were unpacked before, for many texts.
+//! - `includes`: what 01 adds to `resolve_includes`: which calls are accepted, and the numbers of the others.
 //! - `sheet` and `bundle`: bytes to trees and files, and back. `bundle::find` finds by path.
 //! - `layout`: the rules of 01 for bytes.
 
 mod anyhow;
 pub mod bundle;
 pub mod child;
+pub mod includes;
 pub mod layout;
 mod reader;
 mod reference;
@@ -35,7 +38,12 @@ pub fn context(sheet: &[u8]) -> Option<Context> {
 
 /// The text with its includes resolved.
 pub fn resolve_includes(files: &Files, folder: &str, text: &str) -> Result<String, String> {
-    reference::includes(unpacked(files)?.root(), folder, text)
+    resolve_includes_below(&unpacked(files)?, folder, text)
+}
+
+/// The same with files that were unpacked before.
+pub fn resolve_includes_below(unpacked: &Unpacked, folder: &str, text: &str) -> Result<String, String> {
+    reference::includes(unpacked.root(), folder, text)
 }
 
 /// The expanded text, and the bindings at its end.

@@ -25,7 +25,7 @@ pub const DICTIONARY: u8 = 3;
 #[repr(C)]
 #[derive(Clone, Copy, Debug, PartialEq, Eq)]
 pub struct Text {
-    /// 0 accepted; 3 sheet breaks its layout; 6 byte from 128 in the path; 11 output too short.
+    /// 0 accepted; of `resolve_string` 3, 6, 11; of `resolve_includes` 2, 4, 5, 6, 7, 11.
     pub number: u8,
     /// How many bytes of the output it takes. Those behind it are 0.
     pub len: usize,
@@ -66,6 +66,25 @@ pub fn resolve_string(sheet: &[u8], path: &[u8], out: &mut [u8]) -> Text {
 pub fn find_file(bundle: &[u8], path: &[u8]) -> Found {
     // SAFETY: both slices can be read for their lengths, and their pointers are not null.
     unsafe { raw::wf_find_file(bundle.as_ptr(), bundle.len(), path.as_ptr(), path.len()) }
+}
+
+/// Writes `text` with its marks `#include` and `#source-include` resolved from the files of `bundle` to the start of `out`, and 0
+/// behind it. `folder` is the folder of the bundle where the text stands, or empty.
+pub fn resolve_includes(bundle: &[u8], folder: &[u8], text: &[u8], out: &mut [u8]) -> Text {
+    // SAFETY: all slices can be read for their lengths, and their pointers are not null; `out` can be written for its length and
+    // overlaps none of the others.
+    unsafe {
+        raw::wf_resolve_includes(
+            bundle.as_ptr(),
+            bundle.len(),
+            folder.as_ptr(),
+            folder.len(),
+            text.as_ptr(),
+            text.len(),
+            out.as_mut_ptr(),
+            out.len(),
+        )
+    }
 }
 
 /// What a number says (document 01, section 8).
@@ -124,6 +143,23 @@ mod tests {
         assert_eq!(find_file(bundle, b"b"), found(ABSENT, 0, 0));
         assert_eq!(find_file(bundle, b"a/"), Found { number: 4, kind: 0, start: 0, len: 0 });
         assert_eq!(find_file(b"", b"a"), Found { number: 2, kind: 0, start: 0, len: 0 });
+    }
+
+    #[test]
+    fn includes() {
+        let bundle = b"\x03\0\x06\x01a\x01\0A\x07\x01d\x01b\x0c\0#include \"c\"\x07\x01d\x01c\x01\0C";
+        let mut out = [0xAA; 12];
+        let mut call = |text: &[u8], n: usize| {
+            let text = resolve_includes(bundle, b"", text, &mut out[..n]);
+            (text.number, out[..text.len].to_vec(), out[text.len..n].iter().all(|&c| c == 0))
+        };
+        assert_eq!(call(b"x#include \"d/b\"y", 12), (0, b"xC\n\ny".to_vec(), true));
+        assert_eq!(call(b"x#include \"d/b\"y", 4), (11, vec![], true));
+        assert_eq!(call(b"#source-include(\"a\")", 10), (0, b"```\nA\n```\n".to_vec(), true));
+        assert_eq!(call(b"#include \"n\"", 12), (5, vec![], true));
+        assert_eq!(call(b"#include \"..\"", 12), (4, vec![], true));
+        assert_eq!(call(b"\x80", 12), (6, vec![], true));
+        assert_eq!(resolve_includes(b"", b"", b"", &mut []), Text { number: 2, len: 0 });
     }
 
     #[test]

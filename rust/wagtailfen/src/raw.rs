@@ -18,4 +18,16 @@ unsafe extern "C" {
 
     /// `struct wf_found wf_find_file(..)`
     pub fn wf_find_file(bundle: *const u8, bundle_len: usize, path: *const u8, path_len: usize) -> Found;
+
+    /// `struct wf_text wf_resolve_includes(..)`
+    pub fn wf_resolve_includes(
+        bundle: *const u8,
+        bundle_len: usize,
+        folder: *const u8,
+        folder_len: usize,
+        text: *const u8,
+        text_len: usize,
+        out: *mut u8,
+        out_len: usize,
+    ) -> Text;
 }

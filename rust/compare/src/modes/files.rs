@@ -27,7 +27,7 @@ impl Mode for Find {
         if self.disk { 1000 } else { 1 }
     }
 
-    fn case(&self, rng: &mut Rng) -> Case {
+    fn case(&mut self, rng: &mut Rng) -> Case {
         let (bundle, path) = if self.damaged { bundles::damaged_bundle(rng) } else { kept(rng) };
         Case::default().input("bundle", Form::Bundle, bundle).input("path", Form::Plain, path)
     }

@@ -18,7 +18,7 @@ impl Mode for Lookup {
         if self.damaged { "damaged-sheets" } else { "lookups" }
     }
 
-    fn case(&self, rng: &mut Rng) -> Case {
+    fn case(&mut self, rng: &mut Rng) -> Case {
         let (sheet, path) = if self.damaged { sheets::damaged_sheet(rng) } else { kept(rng) };
         let room = sheets::room(text_length(&sheet, &path), rng);
         Case::default().input("sheet", Form::Sheet, sheet).input("path", Form::Plain, path).room("out", room)

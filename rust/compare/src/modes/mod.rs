@@ -5,6 +5,7 @@ use crate::rng::Rng;
 use std::fmt::Debug;
 
 mod files;
+mod includes;
 mod lookup;
 
 pub trait Mode {
@@ -15,10 +16,15 @@ pub trait Mode {
         1
     }
 
-    fn case(&self, rng: &mut Rng) -> Case;
+    fn case(&mut self, rng: &mut Rng) -> Case;
 
     /// Runs both sides. The answer in a word or two, for the count; or the difference.
     fn run(&mut self, case: &Case) -> Result<&'static str, String>;
+
+    /// More about the cases that were run, if there is more to say than the counts of the answers.
+    fn summary(&self) -> Option<String> {
+        None
+    }
 }
 
 pub fn all() -> Vec<Box<dyn Mode>> {
@@ -28,6 +34,7 @@ pub fn all() -> Vec<Box<dyn Mode>> {
         Box::new(files::Find { damaged: false, disk: false }),
         Box::new(files::Find { damaged: true, disk: false }),
         Box::new(files::Find { damaged: false, disk: true }),
+        Box::new(includes::Includes::default()),
     ]
 }
 

@@ -1,0 +1,25 @@
+//! The form of a case: a byte that says which call it is, then fields, each a 16-bit length (low byte first) and its bytes.
+
+/// Fields: sheet, path, answer. The answer: number and kind of `resolve`, number of `resolve_string`, the length of its
+/// buffer in 16 bits, its text.
+pub const LOOKUP: u8 = 0;
+/// Fields: bundle, folder, text, answer. The answer: number, the length of the buffer in 16 bits, the text.
+pub const INCLUDE: u8 = 1;
+
+pub struct Record(pub Vec<u8>);
+
+impl Record {
+    pub fn new(call: u8, fields: &[&[u8]]) -> Record {
+        let mut bytes = vec![call];
+        for field in fields {
+            bytes.extend(word(field.len()));
+            bytes.extend(*field);
+        }
+        Record(bytes)
+    }
+}
+
+/// 16 bits, low byte first.
+pub fn word(n: usize) -> [u8; 2] {
+    u16::try_from(n).expect("16 bits").to_le_bytes()
+}
