@@ -462,7 +462,7 @@ pub trimming-end : {t : List ℕ} {i n : ℕ} → Trimming t i n → length t �
 unfolding trimEnd empty
 trimming-end {t} {i} {n} k h = record { inside = omega (arith, k .below, k .inside); text = sym (k .rest ∙ rw (drop-of-length-le t h) refl) }
 
-drop-take : (a n : ℕ) (l : List ℕ) → drop a (take n l) ≡ take (n - a) (drop a l)
+pub drop-take : (a n : ℕ) (l : List ℕ) → drop a (take n l) ≡ take (n - a) (drop a l)
 drop-take zero n l = rw sub-zero
 drop-take (suc a) zero l = let z : 0 - suc a ≡ 0 = omega arith in rw z refl
 drop-take (suc a) (suc n) [] = sym (take-nil (suc n - suc a))

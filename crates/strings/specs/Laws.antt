@@ -23,6 +23,7 @@ use Rattle.sheet.specs.declared.lookup.Found.the-variants.{Text}
 use Rattle.sheet.specs.Parts.{Part, part-slice}
 use Rattle.sheet.specs.Order.{asked}
 use Rattle.sheet.specs.Find.{IsSheet, Gives, foundText, gives-string}
+use Rattle.scan.specs.Stretches.{span-stops}
 use Rattle.scan.specs.Sets.{plainByte, byteIs, Spans, Sees}
 use Rattle.buffers.specs.Put.{Put, Writer}
 use Rattle.buffers.specs.Laws.{put-none, put-then, put-writer, put-length}
@@ -72,16 +73,6 @@ unfolding the
 is-no c x e = ne-eqb _ _ e
 
 -- A byte behind a stretch of plain bytes is not plain: not a quote, it is a backslash.
-stops-at : (p : ℕ → Bool) (y : ℕ) (ys : List ℕ) (x : ℕ) (xs : List ℕ) (c : Bool) → p y ≡ c → span p (y ∷ ys) .1 ≡ x ∷ xs → (span p ys .1 ≡ x ∷ xs → p x ≡ false) → p x ≡ false
-unfolding span
-stops-at p y ys x xs true q e ih = ih (rw (q, span) at e)
-stops-at p y ys x xs false q e ih = let z : y ∷ ys ≡ x ∷ xs = rw (q, span) at e in let w : y ≡ x = cc in sym (ap p w) ∙ q
-
-span-stops : (p : ℕ → Bool) (t : List ℕ) (x : ℕ) (xs : List ℕ) → span p t .1 ≡ x ∷ xs → p x ≡ false
-unfolding span
-span-stops p [] x xs e = let z : _≡_ {A = List ℕ} [] (x ∷ xs) = e in let o : _≡_ {A = ℕ} 0 1 = cc in absurd (omega arith)
-span-stops p (y ∷ ys) x xs e = stops-at p y ys x xs (p y) refl e (span-stops p ys x xs)
-
 plain-slash : (x : ℕ) (c d : Bool) → the "\"" x ≡ c → the "\\" x ≡ d → plainByte x ≡ false → c ≡ false → d ≡ true
 plain-slash x false true p q h e = refl
 plain-slash x false false p q h e = absurd (true≢false (sym (plain-is x false false p q) ∙ h))

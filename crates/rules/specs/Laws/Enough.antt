@@ -4,7 +4,8 @@ use mathlib.Core.List.{List, [], _∷_, _++_}
 use mathlib.Core.Bool.{Bool, true, false, not, _&&_}
 use Prim.Native.Nat.{ℕ, zero, suc, _+_, _-_, _≤_, _<_}
 use native.Mathlib.Omega.{arith}
-use lib.ListN.{length, length-append, drop, length-drop}
+use lib.ListN.{length, length-append, drop, length-drop, getD}
+use lib.Seq.{drop-cons, drop-drop}
 use Rattle.rules.specs.Reader.{Reader, ret, ifR, _>>=_, _>>_, the, but, either, empty, same, span, sees, skip, mark, loop, rounds, Turn, again, stop}
 use Rattle.rules.specs.Run.{Did, Step, Trace, step, run}
 use Rattle.rules.specs.Bytes.{blank, lineBlank, letter, word, runByte}
@@ -27,6 +28,19 @@ module _ {S : Type 0} (f : Step S) where
       let d = f s (x ∷ xs) .0 in
       let k : length xs - length (f s (x ∷ xs) .1) ≡ j = rw (h, length-drop) (omega arith) in
       ap (step d) (ap (λ z. run f (d .state) z xs) k ∙ run-skip xs j (d .state))
+
+  on-drop : (t : List ℕ) (i j : ℕ) → i < j → drop j t ≡ drop (j - suc i) (drop (suc i) t)
+  on-drop t i j h = let e : suc i + (j - suc i) ≡ j = omega arith in sym (drop-drop (j - suc i) (suc i) t ∙ ap (λ z. drop z t) e)
+
+  -- One step at the place i of a text: reading goes on at j.
+  pub run-at : (t : List ℕ) (s : S) (i j : ℕ) → i < j → j ≤ length t → f s (drop i t) .1 ≡ drop j t →
+      run f s 0 (drop i t) ≡ step (f s (drop i t) .0) (run f (f s (drop i t) .0 .state) 0 (drop j t))
+  run-at t s i j h k r =
+      let c : drop i t ≡ getD t i 0 ∷ drop (suc i) t = drop-cons t i 0 (omega arith) in
+      let d = on-drop t i j h in
+      let l : j - suc i ≤ length (drop (suc i) t) = rw length-drop (omega arith) in
+      let q : f s (getD t i 0 ∷ drop (suc i) t) .1 ≡ drop (j - suc i) (drop (suc i) t) = ap (λ z. f s z .1) (sym c) ∙ r ∙ d in
+      rw (c, d) (run-step s (getD t i 0) (drop (suc i) t) (j - suc i) l q)
 
 module _ {S A : Type 0} (f : S → Reader (Turn S A)) (d : S → A) where
   -- A round that goes on moves

@@ -1,0 +1,6 @@
+pub mod Emits
+pub mod Ahead
+pub mod Marks
+pub mod Read
+pub mod Files
+pub mod Resolve

@@ -1,0 +1,182 @@
+-- The resolver: its loop over the marks of a text, and what is done at a mark.
+use mathlib.Core.Path.{_≡_, refl, sym, ap, _∙_}
+use mathlib.Core.List.{List, [], _∷_, _++_}
+use mathlib.Core.Bool.{Bool, true, false, _&&_, true≢false}
+use Prim.Native.Nat.{ℕ, zero, suc, _+_, _-_, _≤_, _<_}
+use native.Mathlib.Omega.{arith}
+use lib.Dec.{leb}
+use borrow.Author.Tests.{le-leb, lt-leb}
+use lib.ListN.{length, take, drop, drop-of-length-le}
+use Rattle.rules.specs.Answer.{Answer, refused, accepted}
+use Rattle.rules.specs.Reader.{bytes}
+use Rattle.rules.specs.Run.{Emit, ok, put, fail, andThen, unrefused, Trace, step, run, emitted, allWhole, write}
+use Rattle.rules.specs.Bytes.{join}
+use Rattle.rules.specs.Files.{View, fetch, opened, projectRoot}
+use Rattle.rules.specs.Includes.{fenced, included, insideFile, includeStep, wrote}
+use Rattle.rules.specs.Laws.Answer.{not-both}
+use Rattle.rules.specs.Laws.Limit.{write-inv}
+use Rattle.rules.specs.Laws.Enough.{run-at}
+use Rattle.buffers.specs.Put.{Put}
+use Rattle.buffers.specs.Laws.{put-length}
+use Rattle.includes.specs.declared.ahead.Known.{Known}
+use Rattle.includes.specs.declared.files.File.{File}
+use Rattle.includes.specs.declared.read.Reading.{Reading}
+use Rattle.includes.specs.declared.read.Reading.the-variants.{Copied, Include, Source as Shown}
+use Rattle.includes.specs.declared.read.Read.{Read}
+use Rattle.includes.specs.Emits.{Emits, Resolves, Going, going-start, going-same, going-on, going-no, going-end, going-length, emits-put, emits-fail}
+use Rattle.includes.specs.Ahead.{part, KnowsAll}
+use Rattle.includes.specs.Marks.{NextMark, stretch, plain}
+use Rattle.includes.specs.Read.{emitOf, Within, Reads}
+use Rattle.includes.specs.Files.{OpensFile, EndsLine, emits-line}
+
+-- What was written was not refused.
+written-unrefused : (full : ℕ) (e : Emit) (r : ℕ) {o : List ℕ} → write full r e ≡ accepted o → unrefused e ≡ true
+unfolding unrefused write
+written-unrefused full ok r h = refl
+written-unrefused full (put v e) r h = written-unrefused full e (r - length v) (write-inv full r v e h .write-later)
+written-unrefused full (fail k) r h = absurd (not-both h)
+
+and-true : (a : Bool) → (a && true) ≡ a
+and-true true = refl
+and-true false = refl
+
+and-three : (a b c : Bool) → (a && (b && true && c)) ≡ (a && b && c)
+and-three true true c = refl
+and-three true false c = refl
+and-three false b c = refl
+
+-- THE LOOP. v: the bundle; f: how an included file is resolved; g: the folder; t: the text, resolved up to i.
+module _ (v : View) (f : List ℕ → List ℕ → Emit) (g t : List ℕ) where
+  abbrev Whole : Trace (List ℕ)
+  Whole = run (includeStep v f g) [] 0 t
+
+  abbrev Left : ℕ → Trace (List ℕ)
+  Left i = run (includeStep v f g) [] 0 (drop i t)
+
+  pub record Resolving (full room : ℕ) (b : List ℕ) (p : ℕ) (c : List ℕ) (i q : ℕ) (w : Bool) (k : Known) : Type 0 where
+    pub inside : i ≤ length t
+    pub size : length c ≡ length b
+    pub place : q ≤ room
+    pub going : Going full room (emitted Whole) b p c q (emitted (Left i))
+    pub wholes : allWhole Whole ≡ (w && allWhole (Left i))
+    pub knows : KnowsAll t k
+
+  pub resolving-start : {full room : ℕ} {b : List ℕ} {p : ℕ} {k : Known} → p ≤ room → KnowsAll t k → Resolving full room b p b 0 p true k
+  resolving-start {full} {room} {b} {p} h n = record { inside = omega arith; size = refl; place = h; going = going-start full room (emitted Whole) b p h; wholes = refl; knows = n }
+
+  module _ {full room : ℕ} {b : List ℕ} {p : ℕ} (l : length b ≤ room) (h : p ≤ room) {c : List ℕ} {i q : ℕ} {w : Bool} {k : Known} (R : Resolving full room b p c i q w k)
+      {j n : ℕ} (M : NextMark t i j n) {d : List ℕ} {r : ℕ} (P : Put room c q (part t i j) d r) where
+    abbrev Mark : Trace (List ℕ)
+    Mark = run (includeStep v f g) (stretch [] (part t i j)) 0 (drop j t)
+
+    -- The text before the mark is one piece.
+    before-mark : Going full room (emitted Whole) b p c q (andThen (put (part t i j) ok) (emitted Mark))
+    unfolding andThen
+    before-mark = going-same (plain v f g [] t i j (M .before) .writes full (room - q)) (R .going)
+
+    pub resolving-full : {y : ℕ} {x : Bool} → room < r → Resolves full room Whole b p d false full y x
+    resolving-full z = record {
+      emits = record {
+        size = put-length P ∙ R .size;
+        goes = λ e. absurd (true≢false (sym e));
+        stops = λ e. going-no l h (put (part t i j) ok) (emitted Mark) before-mark (emits-put {full = full} (R .place) P) (lt-leb r room z);
+      };
+      wholes = λ e. absurd (true≢false (sym e));
+    }
+
+    module _ (z : r ≤ room) where
+      at-mark : Going full room (emitted Whole) b p d r (emitted Mark)
+      at-mark = going-on l h (put (part t i j) ok) (emitted Mark) before-mark (emits-put {full = full} (R .place) P) (le-leb r room z)
+
+      whole-mark : allWhole Whole ≡ (w && allWhole Mark)
+      whole-mark = R .wholes ∙ ap (λ x. w && x) (plain v f g [] t i j (M .before) .wholes)
+
+      pub resolving-end : {y : ℕ} → n ≡ 0 → Resolves full room Whole b p d true y r w
+      unfolding run emitted allWhole
+      resolving-end e =
+          let s : drop j t ≡ [] = drop-of-length-le t {i = j} (omega (arith, M .last e)) in
+          record {
+            emits = record {
+              size = put-length P ∙ R .size;
+              goes = λ x. going-end l h (ended s);
+              stops = λ x. absurd (true≢false x);
+            };
+            wholes = λ x. whole-mark ∙ unwhole s;
+          }
+        where
+          ended : drop j t ≡ [] → Going full room (emitted Whole) b p d r ok
+          ended s = going-same (ap (λ z. write full (room - r) (emitted (run (includeStep v f g) (stretch [] (part t i j)) 0 z))) s) at-mark
+
+          unwhole : drop j t ≡ [] → (w && allWhole Mark) ≡ w
+          unwhole s = ap (λ z. w && allWhole (run (includeStep v f g) (stretch [] (part t i j)) 0 z)) s ∙ and-true w
+
+      -- The mark is read, and done.
+      module _ {m : Read} (S : Reads (λ v f g. includeStep v f g (stretch [] (part t i j))) t j (j + n) m) (y : 0 < n) {d₂ : List ℕ} {fine : Bool} {o u : ℕ} (E : Emits full room (emitOf v f g t (m .what)) d r d₂ fine o u) where
+        one-step : Mark ≡ step (wrote (m .whole) (emitOf v f g t (m .what))) (Left (m .next))
+        unfolding wrote
+        one-step =
+            let e = S .does v f g in
+            run-at (includeStep v f g) t (stretch [] (part t i j)) j (m .next) (omega (arith, S .on)) (S .inside) (ap (λ z. z .1) e)
+            ∙ ap (λ z. step (z .0) (run (includeStep v f g) (z .0 .state) 0 (drop (m .next) t))) e
+
+        next-mark : Going full room (emitted Whole) b p d r (andThen (emitOf v f g t (m .what)) (emitted (Left (m .next))))
+        unfolding emitted wrote
+        next-mark = going-same (ap (λ z. write full (room - r) (emitted z)) one-step) at-mark
+
+        pub resolving-refused : {x : ℕ} {a : Bool} → fine ≡ false → Resolves full room Whole b p d₂ false o x a
+        resolving-refused e = record {
+          emits = record {
+            size = E .size ∙ put-length P ∙ R .size;
+            goes = λ z. absurd (true≢false (sym z));
+            stops = λ z. going-no l h (emitOf v f g t (m .what)) (emitted (Left (m .next))) next-mark E e;
+          };
+          wholes = λ z. absurd (true≢false (sym z));
+        }
+
+        pub resolving-on : fine ≡ true → Resolving full room b p d₂ (m .next) u (w && m .whole) (m .known)
+        unfolding allWhole wrote
+        resolving-on e = record {
+          inside = S .inside;
+          size = E .size ∙ put-length P ∙ R .size;
+          place = E .goes e .fits;
+          going = going-on l h (emitOf v f g t (m .what)) (emitted (Left (m .next))) next-mark E e;
+          wholes = whole-mark ∙ ap (λ z. w && allWhole z) one-step ∙ more (unrefused (emitOf v f g t (m .what))) (written-unrefused full (emitOf v f g t (m .what)) (room - r) (E .goes e .says));
+          knows = S .knows;
+        }
+          where
+            more : (a : Bool) → a ≡ true → (w && (m .whole && a && allWhole (Left (m .next)))) ≡ (w && m .whole && allWhole (Left (m .next)))
+            more true x = and-three w (m .whole) (allWhole (Left (m .next)))
+            more false x = absurd (true≢false (sym x))
+
+-- AT A MARK: what was read, by its kind.
+module _ (t : List ℕ) {r : Reading} (w : Within t r) where
+  pub within-copied : {a b : ℕ} → r ≡ Copied a b → (a ≤ b) × (b ≤ length t)
+  unfolding Within
+  within-copied e = rw e at w
+
+  pub within-include : {a b : ℕ} → r ≡ Include a b → (a ≤ b) × (b ≤ length t)
+  unfolding Within
+  within-include e = rw e at w
+
+  pub within-source : {a b c d : ℕ} → r ≡ Shown a b c d → (a ≤ b) × (b ≤ length t) × (c ≤ d) × (d ≤ length t)
+  unfolding Within
+  within-source e = rw e at w
+
+module _ (v : View) (f : List ℕ → List ℕ → Emit) (g t : List ℕ) {r : Reading} {full room : ℕ} {c : List ℕ} {p : ℕ} where
+  pub take-copied : {a b : ℕ} → r ≡ Copied a b → p ≤ room → {d : List ℕ} {q : ℕ} → Put room c p (part t a b) d q → Emits full room (emitOf v f g t r) c p d (leb q room) full q
+  unfolding emitOf
+  take-copied e h s = rw e (emits-put {full = full} h s)
+
+  pub take-source : {a b i j : ℕ} → r ≡ Shown a b i j → {d : List ℕ} {y : Bool} {n q : ℕ} → Emits full room (fenced (part t i j) (opened v (join (projectRoot v g) (part t a b)))) c p d y n q → Emits full room (emitOf v f g t r) c p d y n q
+  unfolding emitOf
+  take-source e s = rw e s
+
+module _ (v : View) (levels : ℕ) (g t : List ℕ) {r : Reading} {a b : ℕ} (e : r ≡ Include a b) {z : List ℕ} {o : File} (k : OpensFile v levels z (join g (part t a b)) o) {full room : ℕ} {c : List ℕ} {p : ℕ} where
+  pub take-stop : {q : ℕ} → o .ok ≡ false → Emits full room (emitOf v (insideFile v levels) g t r) c p c false (o .number) q
+  unfolding emitOf
+  take-stop {q} h = rw (e, k .stops h g) (emits-fail full room c p (o .number) q)
+
+  pub take-include : length c ≤ room → p ≤ room → o .ok ≡ true → {d : List ℕ} {y : Bool} {n q : ℕ} {x : Bool} → Resolves full room (run (includeStep v (insideFile v (levels - 1)) (take (o .parent) (o .bytes))) [] 0 (part z (o .start) (o .end))) c p d y n q x →
+      {u : List ℕ} {s : Bool} {m i : ℕ} → EndsLine y n full room d q u s m i → Emits full room (emitOf v (insideFile v levels) g t r) c p u s m i
+  unfolding emitOf
+  take-include l i h w n = rw (e, k .goes h g) (emits-line l i (w .emits) n)
