@@ -92,7 +92,7 @@ pub gave-eleven : (t : List ℕ) (n : ℕ) (before after : List ℕ) (number len
 unfolding outputAnswer check _>>_
 gave-eleven t n before after number len h l r = record { is = rw (lt-leb (length t) n h) (refused-text _ 11 n before after number len refl l r) }
 
-stored-first : (b t : List ℕ) → length t ≤ length b → take (length t) (sets b 0 t) ≡ t
+pub stored-first : (b t : List ℕ) → length t ≤ length b → take (length t) (sets b 0 t) ≡ t
 stored-first b t h = rw (sets-eq t b 0 (omega arith)) (take-append-seam t _)
 
 pub gave-text : (t : List ℕ) (n : ℕ) (b c d : List ℕ) (m : ℕ) → length t ≤ n → n ≡ length b → m ≡ length t → c ≡ sets b 0 t → d ≡ padded (length c) (take m c) → Gave t n d 0 m

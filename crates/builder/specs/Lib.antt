@@ -1,3 +1,4 @@
 pub mod Text
 pub mod Laws
 pub mod Files
+pub mod Includes

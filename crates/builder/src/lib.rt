@@ -3,7 +3,7 @@
 use sheet::lookup::Found;
 ghost use mathlib.Core.Path.{_≡_};
 ghost use lib.ListN.{length};
-ghost use Rattle.rules.specs.Calls.{resolveOf, resolveStringOf, findFileOf};
+ghost use Rattle.rules.specs.Calls.{resolveOf, resolveStringOf, resolveIncludesOf, findFileOf};
 ghost use Rattle.sheet.specs.Find.{foundKind};
 ghost use Rattle.builder.specs.Files.{fileAnswer};
 ghost use Rattle.builder.specs.Text.{TextAt, Gave, Refuses};
@@ -115,6 +115,29 @@ pub fn resolve_string(sheet: &[u8], path: &[u8], out: &mut [u8]) -> Text
     let from = place.from;
     let to = place.to;
     give(&sheet[from..to], out)
+}
+
+// A text with its includes resolved: 2, 4, 6, then in reading 11, 4, 5, 7, 6.
+pub fn resolve_includes(bundle: &[u8], folder: &[u8], text: &[u8], out: &mut [u8]) -> Text
+    ensures { λ r. ⌜ resolveIncludesOf (now (bundle .entry)) (now (folder .entry)) (now (text .entry)) (length (now (out .entry))) ≡ record { number = r .number; len = r .len; out = now (out .exit) } ⌝ }
+{
+    if !bundle::check(bundle) {
+        return no_text(out, 2);
+    }
+    if !scan::paths::is_folder(folder) {
+        return no_text(out, 4);
+    }
+    if !scan::is_ascii(text) {
+        return no_text(out, 6);
+    }
+    let room = out.len();
+    let r = includes::resolve(bundle, folder, text, out, room, 0, 11, 6);
+    if !r.ok {
+        return no_text(out, r.number);
+    }
+    let n = r.next;
+    buffers::clear_from(out, n);
+    Text { number: 0, len: n }
 }
 
 // What a path is in a bundle. Kind: 0 absent, 1 folder, 2 file; a file's content stands at `start` in the bundle.

@@ -10,7 +10,7 @@ use lib.Dec.{leb}
 use lib.ListN.{length, length-append}
 use borrow.Author.Tests.{le-leb, lt-leb, leb-true, leb-false}
 use Rattle.rules.specs.Answer.{Answer, refused, accepted, _>>=_, _>>_, check}
-use Rattle.rules.specs.Run.{Emit, ok, put, fail, andThen, unrefused, Trace, emitted, allWhole, write}
+use Rattle.rules.specs.Run.{Emit, ok, put, fail, andThen, unrefused, Trace, fin, step, emitted, allWhole, write, limited}
 use Rattle.rules.specs.Laws.Answer.{not-both, accepted-same}
 use Rattle.rules.specs.Laws.Limit.{write-inv}
 use Rattle.buffers.specs.Put.{Put, Writer}
@@ -167,3 +167,18 @@ emits-put {full} {room} {b} {p} {v} {c} {q} h s = record {
 -- A refusal.
 pub emits-fail : (full room : ℕ) (b : List ℕ) (p k q : ℕ) → Emits full room (fail k) b p b false k q
 emits-fail full room b p k q = record { size = refl; goes = λ z. absurd (true≢false (sym z)); stops = λ z. (unfold write in refl) }
+
+first-before : (o : List ℕ) (a : Answer (List ℕ × List ℕ)) → (_>>=_ {B = List ℕ × List ℕ} a (λ p. accepted (o ++ p .0, p .1)) >>= λ x. accepted (x .0)) ≡ before o (a >>= λ x. accepted (x .0))
+unfolding _>>=_ before
+first-before o (refused k) = refl
+first-before o (accepted x) = refl
+
+-- A run whose state has no limit, written: its text alone is what its steps write.
+pub limited-write : (full : ℕ) (t : Trace (List ℕ)) (r : ℕ) → (limited (λ h. 0) 0 full r t >>= λ x. accepted (x .0)) ≡ write full r (emitted t)
+unfolding limited emitted check _>>_ _>>=_
+limited-write full (fin s) r = unfold write in refl
+limited-write full (step d t) r = at (write full r (d .emit)) refl (limited-write full t)
+  where
+    at : (a : Answer (List ℕ)) → write full r (d .emit) ≡ a → ((m : ℕ) → (limited (λ h. 0) 0 full m t >>= λ x. accepted (x .0)) ≡ write full m (emitted t)) → (limited (λ h. 0) 0 full r (step d t) >>= λ x. accepted (x .0)) ≡ write full r (andThen (d .emit) (emitted t))
+    at (refused k) e ih = rw e (sym (write-refused full (d .emit) (emitted t) r k e))
+    at (accepted o) e ih = rw e (first-before o (limited (λ h. 0) 0 full (r - length o) t) ∙ ap (before o) (ih (r - length o)) ∙ sym (write-andThen full (d .emit) (emitted t) r e))

@@ -2,7 +2,7 @@
 // returned by value.
 ghost use mathlib.Core.Path.{_≡_};
 ghost use lib.ListN.{length};
-ghost use Rattle.rules.specs.Calls.{resolveOf, resolveStringOf, findFileOf};
+ghost use Rattle.rules.specs.Calls.{resolveOf, resolveStringOf, resolveIncludesOf, findFileOf};
 
 #[no_mangle]
 pub extern "C" fn wf_resolve(sheet: &[u8], path: &[u8]) -> builder::Resolved
@@ -16,6 +16,18 @@ pub extern "C" fn wf_resolve_string(sheet: &[u8], path: &[u8], out: &mut [u8]) -
     ensures { λ r. ⌜ resolveStringOf (now (sheet .entry)) (now (path .entry)) (length (now (out .entry))) ≡ record { number = r .number; len = r .len; out = now (out .exit) } ⌝ }
 {
     builder::resolve_string(sheet, path, out)
+}
+
+#[no_mangle]
+pub extern "C" fn wf_resolve_includes(
+    bundle: &[u8],
+    folder: &[u8],
+    text: &[u8],
+    out: &mut [u8],
+) -> builder::Text
+    ensures { λ r. ⌜ resolveIncludesOf (now (bundle .entry)) (now (folder .entry)) (now (text .entry)) (length (now (out .entry))) ≡ record { number = r .number; len = r .len; out = now (out .exit) } ⌝ }
+{
+    builder::resolve_includes(bundle, folder, text, out)
 }
 
 #[no_mangle]
