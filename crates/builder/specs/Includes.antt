@@ -17,10 +17,9 @@ use Rattle.rules.specs.Includes.{insideFile, includeStep, includes}
 use Rattle.rules.specs.Pass.{middleText}
 use Rattle.rules.specs.Calls.{zeros, padded, Output, outputAnswer, resolveIncludesResult, resolveIncludesOf}
 use Rattle.rules.specs.Laws.Bool.{isSome, true-some, false-some}
-use Rattle.buffers.specs.Put.{Put}
-use Rattle.buffers.specs.Laws.{put-fits}
 use Rattle.bundle.specs.Find.{entriesOf, entries-some}
-use Rattle.includes.specs.Emits.{Resolves, limited-write}
+use Rattle.buffers.specs.Emits.{limited-write}
+use Rattle.includes.specs.Resolve.{Resolves}
 use Rattle.builder.specs.Laws.{stored-first}
 
 module _ (b g t : List ℕ) (n : ℕ) where
@@ -56,7 +55,7 @@ module _ (b g t : List ℕ) (n : ℕ) where
           unfolding outputAnswer
           includes-done e l {d} z =
               let s = r .emits .goes e in
-              let f : m ≡ length (s .text) = omega (arith, put-fits (s .puts) (omega arith) (s .fits)) in
-              let v : take m c ≡ s .text = ap (λ x. take x c) f ∙ ap (take (length (s .text))) (s .puts .stored) ∙ stored-first o (s .text) (omega (arith, s .fits)) in
+              let f : m ≡ length (s .text) = omega (arith, s .fills .place) in
+              let v : take m c ≡ s .text = s .fills .holds ∙ ap (λ x. take x (sets o 0 (s .text))) f ∙ stored-first o (s .text) (omega (arith, s .fits)) in
               let u : padded n (s .text) ≡ d = sym (z ∙ ap (λ x. padded x (take m c)) (r .emits .size ∙ sym l) ∙ ap (padded n) v) in
               in-reading ∙ ap (outputAnswer n) (rw sub-zero at (s .says)) ∙ λ i. record { number = 0; len = sym f i; out = u i }

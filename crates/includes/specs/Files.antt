@@ -23,7 +23,7 @@ use Rattle.bundle.specs.declared.Opened.{Opened}
 use Rattle.bundle.specs.declared.Opened.the-variants.{Refused, Text}
 use Rattle.includes.specs.declared.files.File.{File}
 use Rattle.includes.specs.Ahead.{part}
-use Rattle.includes.specs.Emits.{Emits, Writes, write-refused, Going, going-start, going-on, going-no, going-end, emits-put, emits-fail}
+use Rattle.buffers.specs.Emits.{Emits, Writes, write-refused, Going, going-start, going-on, going-no, going-end, emits-put, emits-fail}
 
 -- A file that is refused.
 abbrev pub refusedFile : ℕ → List ℕ → File
@@ -56,9 +56,9 @@ pub newline-goes : {number full room : ℕ} {b : List ℕ} {p : ℕ} {c : List �
 newline-goes e s = record { size = put-length s; stops = λ z. absurd (true≢false (sym e ∙ z)); goes = λ z. (s, refl, refl) }
 
 -- Behind an included file.
-pub emits-line : {full room : ℕ} {e : Emit} {b : List ℕ} {p : ℕ} {c : List ℕ} {y : Bool} {n q : ℕ} {d : List ℕ} {z : Bool} {k r : ℕ} → length b ≤ room → p ≤ room → Emits full room e b p c y n q → EndsLine y n full room c q d z k r → Emits full room (andThen e (put (bytes "\n") ok)) b p d z k r
+pub emits-line : {full room : ℕ} {e : Emit} {b : List ℕ} {p : ℕ} {c : List ℕ} {y : Bool} {n q : ℕ} {d : List ℕ} {z : Bool} {k r : ℕ} → p ≤ room → Emits full room e b p c y n q → EndsLine y n full room c q d z k r → Emits full room (andThen e (put (bytes "\n") ok)) b p d z k r
 unfolding andThen
-emits-line {full} {room} {e} {b} {p} {c} {y} {n} {q} {d} {z} {k} {r} l h s t = at y refl
+emits-line {full} {room} {e} {b} {p} {c} {y} {n} {q} {d} {z} {k} {r} h s t = at y refl
   where
     at : (x : Bool) → y ≡ x → Emits full room (andThen e (put (bytes "\n") ok)) b p d z k r
     at false x =
@@ -67,9 +67,9 @@ emits-line {full} {room} {e} {b} {p} {c} {y} {n} {q} {d} {z} {k} {r} l h s t = a
     at true x =
         let f = put (bytes "\n") ok in
         let o = t .goes x in
-        let g : Going full room (andThen e f) b p c q (andThen f ok) = going-on l h e f (going-start full room (andThen e f) b p h) s x in
+        let g : Going full room (andThen e f) b p c q (andThen f ok) = going-on e f (going-start full room (andThen e f) b p h) s x in
         let m = emits-put {full = full} (g .fits) (o .0) in
-        record { size = t .size ∙ s .size; goes = λ w. going-end l h (going-on l h f ok g m (sym (o .1) ∙ w)); stops = λ w. going-no l h f ok g m (sym (o .1) ∙ w) ∙ ap refused (sym (o .2)) }
+        record { size = t .size ∙ s .size; goes = λ w. going-end (going-on f ok g m (sym (o .1) ∙ w)); stops = λ w. going-no f ok g m (sym (o .1) ∙ w) ∙ ap refused (sym (o .2)) }
 
 -- A SOURCE'S BLOCK.
 pub same-put : {room : ℕ} {b : List ℕ} {p : ℕ} {v w c : List ℕ} {q : ℕ} → v ≡ w → Put room b p v c q → Put room b p w c q

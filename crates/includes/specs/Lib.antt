@@ -1,4 +1,3 @@
-pub mod Emits
 pub mod Ahead
 pub mod Marks
 pub mod Read

@@ -20,7 +20,7 @@ use Rattle.rules.specs.Laws.Bool.{and-l, and-r, and-i}
 use Rattle.rules.specs.Laws.Enough.{run-step}
 use Rattle.scan.specs.Sets.{Spans, Starts, notByte}
 use Rattle.scan.specs.Stretches.{spans-each}
-use Rattle.includes.specs.Emits.{write-none, write-same, write-join}
+use Rattle.buffers.specs.Emits.{write-none, write-same, write-join}
 
 -- The length of the mark at the start of a text; 0 where none stands there.
 unfoldable pub markLength : List ℕ → ℕ

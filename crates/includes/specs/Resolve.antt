@@ -23,11 +23,16 @@ use Rattle.includes.specs.declared.files.File.{File}
 use Rattle.includes.specs.declared.read.Reading.{Reading}
 use Rattle.includes.specs.declared.read.Reading.the-variants.{Copied, Include, Source as Shown}
 use Rattle.includes.specs.declared.read.Read.{Read}
-use Rattle.includes.specs.Emits.{Emits, Resolves, Going, going-start, going-same, going-on, going-no, going-end, going-length, emits-put, emits-fail}
+use Rattle.buffers.specs.Emits.{Emits, Going, going-start, going-same, going-on, going-no, going-end, emits-put, emits-fail}
 use Rattle.includes.specs.Ahead.{part, KnowsAll}
 use Rattle.includes.specs.Marks.{NextMark, stretch, plain}
 use Rattle.includes.specs.Read.{emitOf, Within, Reads}
 use Rattle.includes.specs.Files.{OpensFile, EndsLine, emits-line}
+
+-- What writing a run's text came to; and is each of its steps whole.
+pub record Resolves (full room : ℕ) (t : Trace (List ℕ)) (b : List ℕ) (p : ℕ) (c : List ℕ) (fine : Bool) (number q : ℕ) (w : Bool) : Type 0 where
+  pub emits : Emits full room (emitted t) b p c fine number q
+  pub wholes : fine ≡ true → allWhole t ≡ w
 
 -- What was written was not refused.
 written-unrefused : (full : ℕ) (e : Emit) (r : ℕ) {o : List ℕ} → write full r e ≡ accepted o → unrefused e ≡ true
@@ -64,7 +69,7 @@ module _ (v : View) (f : List ℕ → List ℕ → Emit) (g t : List ℕ) where
   pub resolving-start : {full room : ℕ} {b : List ℕ} {p : ℕ} {k : Known} → p ≤ room → KnowsAll t k → Resolving full room b p b 0 p true k
   resolving-start {full} {room} {b} {p} h n = record { inside = omega arith; size = refl; place = h; going = going-start full room (emitted Whole) b p h; wholes = refl; knows = n }
 
-  module _ {full room : ℕ} {b : List ℕ} {p : ℕ} (l : length b ≤ room) (h : p ≤ room) {c : List ℕ} {i q : ℕ} {w : Bool} {k : Known} (R : Resolving full room b p c i q w k)
+  module _ {full room : ℕ} {b : List ℕ} {p : ℕ} {c : List ℕ} {i q : ℕ} {w : Bool} {k : Known} (R : Resolving full room b p c i q w k)
       {j n : ℕ} (M : NextMark t i j n) {d : List ℕ} {r : ℕ} (P : Put room c q (part t i j) d r) where
     abbrev Mark : Trace (List ℕ)
     Mark = run (includeStep v f g) (stretch [] (part t i j)) 0 (drop j t)
@@ -79,14 +84,14 @@ module _ (v : View) (f : List ℕ → List ℕ → Emit) (g t : List ℕ) where
       emits = record {
         size = put-length P ∙ R .size;
         goes = λ e. absurd (true≢false (sym e));
-        stops = λ e. going-no l h (put (part t i j) ok) (emitted Mark) before-mark (emits-put {full = full} (R .place) P) (lt-leb r room z);
+        stops = λ e. going-no (put (part t i j) ok) (emitted Mark) before-mark (emits-put {full = full} (R .place) P) (lt-leb r room z);
       };
       wholes = λ e. absurd (true≢false (sym e));
     }
 
     module _ (z : r ≤ room) where
       at-mark : Going full room (emitted Whole) b p d r (emitted Mark)
-      at-mark = going-on l h (put (part t i j) ok) (emitted Mark) before-mark (emits-put {full = full} (R .place) P) (le-leb r room z)
+      at-mark = going-on (put (part t i j) ok) (emitted Mark) before-mark (emits-put {full = full} (R .place) P) (le-leb r room z)
 
       whole-mark : allWhole Whole ≡ (w && allWhole Mark)
       whole-mark = R .wholes ∙ ap (λ x. w && x) (plain v f g [] t i j (M .before) .wholes)
@@ -98,7 +103,7 @@ module _ (v : View) (f : List ℕ → List ℕ → Emit) (g t : List ℕ) where
           record {
             emits = record {
               size = put-length P ∙ R .size;
-              goes = λ x. going-end l h (ended s);
+              goes = λ x. going-end (ended s);
               stops = λ x. absurd (true≢false x);
             };
             wholes = λ x. whole-mark ∙ unwhole s;
@@ -128,7 +133,7 @@ module _ (v : View) (f : List ℕ → List ℕ → Emit) (g t : List ℕ) where
           emits = record {
             size = E .size ∙ put-length P ∙ R .size;
             goes = λ z. absurd (true≢false (sym z));
-            stops = λ z. going-no l h (emitOf v f g t (m .what)) (emitted (Left (m .next))) next-mark E e;
+            stops = λ z. going-no (emitOf v f g t (m .what)) (emitted (Left (m .next))) next-mark E e;
           };
           wholes = λ z. absurd (true≢false (sym z));
         }
@@ -139,7 +144,7 @@ module _ (v : View) (f : List ℕ → List ℕ → Emit) (g t : List ℕ) where
           inside = S .inside;
           size = E .size ∙ put-length P ∙ R .size;
           place = E .goes e .fits;
-          going = going-on l h (emitOf v f g t (m .what)) (emitted (Left (m .next))) next-mark E e;
+          going = going-on (emitOf v f g t (m .what)) (emitted (Left (m .next))) next-mark E e;
           wholes = whole-mark ∙ ap (λ z. w && allWhole z) one-step ∙ more (unrefused (emitOf v f g t (m .what))) (written-unrefused full (emitOf v f g t (m .what)) (room - r) (E .goes e .says));
           knows = S .knows;
         }
@@ -176,7 +181,7 @@ module _ (v : View) (levels : ℕ) (g t : List ℕ) {r : Reading} {a b : ℕ} (e
   unfolding emitOf
   take-stop {q} h = rw (e, k .stops h g) (emits-fail full room c p (o .number) q)
 
-  pub take-include : length c ≤ room → p ≤ room → o .ok ≡ true → {d : List ℕ} {y : Bool} {n q : ℕ} {x : Bool} → Resolves full room (run (includeStep v (insideFile v (levels - 1)) (take (o .parent) (o .bytes))) [] 0 (part z (o .start) (o .end))) c p d y n q x →
+  pub take-include : p ≤ room → o .ok ≡ true → {d : List ℕ} {y : Bool} {n q : ℕ} {x : Bool} → Resolves full room (run (includeStep v (insideFile v (levels - 1)) (take (o .parent) (o .bytes))) [] 0 (part z (o .start) (o .end))) c p d y n q x →
       {u : List ℕ} {s : Bool} {m i : ℕ} → EndsLine y n full room d q u s m i → Emits full room (emitOf v (insideFile v levels) g t r) c p u s m i
   unfolding emitOf
-  take-include l i h w n = rw (e, k .goes h g) (emits-line l i (w .emits) n)
+  take-include i h w n = rw (e, k .goes h g) (emits-line i (w .emits) n)

@@ -16,7 +16,7 @@ ghost use Rattle.buffers.specs.Put.{Writer, Put};
 ghost use Rattle.rules.specs.Laws.Bool.{isSome};
 ghost use Rattle.bundle.specs.Find.{entriesOf};
 ghost use Rattle.bundle.specs.Open.{Opens};
-ghost use Rattle.includes.specs.Emits.{Emits};
+ghost use Rattle.buffers.specs.Emits.{Emits};
 ghost use Rattle.includes.specs.Files.{refusedFile, OpensFile, blockText, EndsLine};
 
 // Has all been written; if not, the refusal's number. Where the writer goes on.

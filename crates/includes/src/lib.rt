@@ -11,7 +11,8 @@ ghost use Rattle.rules.specs.Includes.{insideFile, includeStep};
 ghost use Rattle.buffers.specs.Put.{Writer};
 ghost use Rattle.rules.specs.Laws.Bool.{isSome};
 ghost use Rattle.bundle.specs.Find.{entriesOf};
-ghost use Rattle.includes.specs.Emits.{Emits, Resolves};
+ghost use Rattle.buffers.specs.Emits.{Emits};
+ghost use Rattle.includes.specs.Resolve.{Resolves};
 ghost use Rattle.includes.specs.Read.{emitOf, Within};
 
 mod ahead;

@@ -180,7 +180,7 @@ resolve-returns : (t : ℕ) → resolve-lts.Need-returns (
   take-below t,
   take.Post,
 ) (resolve-at t) resolve.Post resolve-Inv-loop resolve-μ-loop
-resolve-returns t c = resolving-full _ _ _ _ (c .before .before .before .before .before .before .before .before .before .before .before .before .before .pre .1 .3) (c .before .before .before .before .before .before .before .before .before .before .before .before .before .pre .1 .2) (c .before .before .before .before .before .before .before .loop .inv) (c .before .before .before .before .before .before .next-mark .ensures) (c .before .before .before .put .ensures) (search needs)
+resolve-returns t c = resolving-full _ _ _ _ (c .before .before .before .before .before .before .before .loop .inv) (c .before .before .before .before .before .before .next-mark .ensures) (c .before .before .before .put .ensures) (search needs)
 
 resolve-same-length-2 : (t : ℕ) → resolve-lts.Need-same-length-2 (
   nothing-reads.Asked,
@@ -208,7 +208,7 @@ resolve-returns-2 : (t : ℕ) → resolve-lts.Need-returns-2 (
   take-below t,
   take.Post,
 ) (resolve-at t) resolve.Post resolve-Inv-loop resolve-μ-loop
-resolve-returns-2 t c = resolving-end _ _ _ _ (c .before .before .before .before .before .before .before .before .before .before .before .before .before .before .before .pre .1 .3) (c .before .before .before .before .before .before .before .before .before .before .before .before .before .before .before .pre .1 .2) (c .before .before .before .before .before .before .before .before .before .loop .inv) (c .before .before .before .before .before .before .before .before .next-mark .ensures) (c .before .before .before .before .before .put .ensures) (search needs) (c .if2 .taken)
+resolve-returns-2 t c = resolving-end _ _ _ _ (c .before .before .before .before .before .before .before .before .before .loop .inv) (c .before .before .before .before .before .before .before .before .next-mark .ensures) (c .before .before .before .before .before .put .ensures) (search needs) (c .if2 .taken)
 
 resolve-read-mark-requires : (t : ℕ) → resolve-lts.Need-read-mark-requires (
   nothing-reads.Asked,
@@ -264,7 +264,7 @@ resolve-returns-3 : (t : ℕ) → resolve-lts.Need-returns-3 (
   take-below t,
   take.Post,
 ) (resolve-at t) resolve.Post resolve-Inv-loop resolve-μ-loop
-resolve-returns-3 t c = resolving-refused _ _ _ _ (c .before .before .before .before .before .before .before .before .before .before .before .before .before .before .before .before .before .before .before .before .before .before .pre .1 .3) (c .before .before .before .before .before .before .before .before .before .before .before .before .before .before .before .before .before .before .before .before .before .before .pre .1 .2) (c .before .before .before .before .before .before .before .before .before .before .before .before .before .before .before .before .loop .inv) (c .before .before .before .before .before .before .before .before .before .before .before .before .before .before .before .next-mark .ensures) (c .before .before .before .before .before .before .before .before .before .before .before .before .put .ensures) (search needs) (c .before .before .before .before .before .before .read-mark .ensures) (search needs) (c .before .before .before .before .take .ensures) (not-true _ (c .if3 .taken))
+resolve-returns-3 t c = resolving-refused _ _ _ _ (c .before .before .before .before .before .before .before .before .before .before .before .before .before .before .before .before .loop .inv) (c .before .before .before .before .before .before .before .before .before .before .before .before .before .before .before .next-mark .ensures) (c .before .before .before .before .before .before .before .before .before .before .before .before .put .ensures) (search needs) (c .before .before .before .before .before .before .read-mark .ensures) (search needs) (c .before .before .before .before .take .ensures) (not-true _ (c .if3 .taken))
 
 resolve-loop-less : (t : ℕ) → resolve-lts.Need-loop-less (
   nothing-reads.Asked,
@@ -296,7 +296,7 @@ resolve-loop-again : (t : ℕ) → resolve-lts.Need-loop-again (
   take-below t,
   take.Post,
 ) (resolve-at t) resolve.Post resolve-Inv-loop resolve-μ-loop
-resolve-loop-again t c = resolving-on _ _ _ _ (c .before .before .before .before .before .before .before .before .before .before .before .before .before .before .before .before .before .before .before .before .before .before .before .before .pre .1 .3) (c .before .before .before .before .before .before .before .before .before .before .before .before .before .before .before .before .before .before .before .before .before .before .before .before .pre .1 .2) (c .before .before .before .before .before .before .before .before .before .before .before .before .before .before .before .before .before .before .loop .inv) (c .before .before .before .before .before .before .before .before .before .before .before .before .before .before .before .before .before .next-mark .ensures) (c .before .before .before .before .before .before .before .before .before .before .before .before .before .before .put .ensures) (search needs) (c .before .before .before .before .before .before .before .before .read-mark .ensures) (search needs) (c .before .before .before .before .before .before .take .ensures) (not-false _ (c .before .before .if3 .left))
+resolve-loop-again t c = resolving-on _ _ _ _ (c .before .before .before .before .before .before .before .before .before .before .before .before .before .before .before .before .before .before .loop .inv) (c .before .before .before .before .before .before .before .before .before .before .before .before .before .before .before .before .before .next-mark .ensures) (c .before .before .before .before .before .before .before .before .before .before .before .before .before .before .put .ensures) (search needs) (c .before .before .before .before .before .before .before .before .read-mark .ensures) (search needs) (c .before .before .before .before .before .before .take .ensures) (not-false _ (c .before .before .if3 .left))
 
 take-enum-known-what : (t : ℕ) → take-lts.Need-enum-known-what (
   put-reads.Asked,
@@ -786,7 +786,7 @@ take-returns-4 : (t : ℕ) → take-lts.Need-returns-4 (
   newline-reads.Asked,
   newline-reads.Learnt,
 ) (take-at t) take.Post
-take-returns-4 t c = take-include _ _ _ _ (c .before .before .before .before .before .before .before .before .before .before .before .before .before .before .before .before .what3 .given .1) (c .before .before .before .before .before .before .before .before .before .before .before .before .before .open-file .ensures) (c .before .before .before .before .before .before .before .before .before .before .before .before .before .before .before .before .before .before .before .before .before .before .pre .1 .3) (c .before .before .before .before .before .before .before .before .before .before .before .before .before .before .before .before .before .before .before .before .before .before .pre .1 .2) (not-false _ (c .before .before .before .before .before .before .before .before .before .before .before .if1 .left)) (c .before .before .before .before .before .before .resolve .ensures) (c .before .before .newline .ensures)
+take-returns-4 t c = take-include _ _ _ _ (c .before .before .before .before .before .before .before .before .before .before .before .before .before .before .before .before .what3 .given .1) (c .before .before .before .before .before .before .before .before .before .before .before .before .before .open-file .ensures) (c .before .before .before .before .before .before .before .before .before .before .before .before .before .before .before .before .before .before .before .before .before .before .pre .1 .2) (not-false _ (c .before .before .before .before .before .before .before .before .before .before .before .if1 .left)) (c .before .before .before .before .before .before .resolve .ensures) (c .before .before .newline .ensures)
 
 pub +resolve+take-spec : {M : Type 1} → statement M
 +resolve+take-spec = close μ-resolve μ-take (λ t. resolve-lts.spec (
