@@ -1,9 +1,10 @@
-// Replays fixed vectors: calls with the answers that they must have (crates/lines/README.md says how they were made). It prints
-// each case that differs, and how many there were.
+// Replays fixed vectors: calls with the answers that they must have (crates/lines/README.md has their form, and says how they were
+// made). It prints each case that differs, and how many there were.
 use libc::STDOUT_FILENO;
-ghost use Prim.Native.Nat.{_≤_, _<_};
+ghost use mathlib.Core.Path.{_≡_};
+ghost use Prim.Native.Nat.{_+_, _≤_, _<_};
 ghost use lib.ListN.{length};
-ghost use Rattle.lines.specs.Fields.{Within};
+ghost use Rattle.io.specs.Counts.{Counts};
 
 // A byte as a number.
 fn wide(x: u8) -> usize
@@ -12,24 +13,30 @@ fn wide(x: u8) -> usize
     x as usize
 }
 
-// A field of the input.
+// The number in 16 bits at a place, low byte first.
+fn short_at(bytes: &[u8], at: usize) -> usize
+    requires { ⌜ at + 2 ≤ length (now bytes) ⌝ }
+    ensures { λ r. ⌜ r < 65536 ⌝ }
+{
+    wide(bytes[at]) + 256 * wide(bytes[at + 1])
+}
+
+// Where the bytes of a field stand.
 struct Part {
     pub from: usize,
     pub to: usize,
 }
 
-// The field at a place: a 16-bit length, low byte first, then its bytes. An empty field at the end where it is cut short.
-fn field_at(input: &[u8], at: usize) -> Part
-    ensures { λ r. ⌜ Within (length (now (input .entry))) at (r .from) (r .to) ⌝ }
+// The field at a place: a 16-bit length, then its bytes. An empty field at the end where it is cut short.
+fn part_at(case: &[u8], at: usize) -> Part
+    requires { ⌜ at ≤ length (now case) ⌝ }
+    ensures { λ r. ⌜ (r .from ≤ r .to) × (r .to ≤ length (now (case .entry))) ⌝ }
 {
-    let n = input.len();
-    if n < 2 {
+    let n = case.len();
+    if n - at < 2 {
         return Part { from: n, to: n };
     }
-    if n - 2 < at {
-        return Part { from: n, to: n };
-    }
-    let size = wide(input[at]) + 256 * wide(input[at + 1]);
+    let size = short_at(case, at);
     if n - at - 2 < size {
         return Part { from: n, to: n };
     }
@@ -37,6 +44,49 @@ fn field_at(input: &[u8], at: usize) -> Part
         from: at + 2,
         to: at + 2 + size,
     }
+}
+
+// The place behind the first `count` fields of a case.
+fn behind(case: &[u8], count: usize) -> usize
+    ensures { λ r. ⌜ r ≤ length (now (case .entry)) ⌝ }
+{
+    let mut at: usize = 0;
+    let mut i: usize = 0;
+    while i < count {
+        let part = part_at(case, at);
+        at = part.to;
+        i += 1;
+    }
+    at
+}
+
+// A field of a case; the first is 0.
+fn field(case: &[u8], k: usize) -> &[u8] {
+    let part = part_at(case, behind(case, k));
+    let from = part.from;
+    let to = part.to;
+    &case[from..to]
+}
+
+// A buffer for a call: filled, so that a byte that the call leaves as it was is seen.
+fn buffer() -> [u8; 4096]
+    ensures { λ r. ⌜ 4096 ≡ length r ⌝ }
+{
+    [170; 4096]
+}
+
+// The length that a text's answer asks of its buffer; 0 where the answer is cut short or asks for more than there is.
+fn room(answer: &[u8], out: &[u8]) -> usize
+    ensures { λ r. ⌜ Counts r (now (out .entry)) ⌝ }
+{
+    if answer.len() < 3 {
+        return 0;
+    }
+    let size = short_at(answer, 1);
+    if out.len() < size {
+        return 0;
+    }
+    size
 }
 
 // Does a buffer hold the text, and zero behind it?
@@ -55,39 +105,80 @@ fn holds(out: &[u8], text: &[u8]) -> bool {
     text.len() <= out.len()
 }
 
-// Fills a buffer, so that a byte that a call leaves as it was is seen.
-fn fill(out: &mut [u8]) {
-    let mut i: usize = 0;
-    while i < out.len() {
-        out[i] = 170;
-        i += 1;
+// Is a text's answer the one given: number, the buffer's length in 16 bits, the text?
+fn text_same(answer: &[u8], got: builder::Text, out: &[u8; 4096]) -> bool {
+    if answer.len() < 3 {
+        return false;
     }
+    let all = &out[..];
+    let n = room(answer, all);
+    if (got.number != answer[0]) | (n != short_at(answer, 1)) | (got.len != answer.len() - 3) {
+        return false;
+    }
+    holds(&all[..n], &answer[3..])
 }
 
-// The text call, into a buffer.
-fn text_same(sheet: &[u8], path: &[u8], number: u8, text: &[u8], out: &mut [u8]) -> bool {
-    fill(out);
-    let t = builder::resolve_string(sheet, path, out);
-    if (t.number != number) | (t.len != text.len()) {
-        return false;
-    }
-    holds(out, text)
+// The text of a lookup.
+fn string_same(sheet: &[u8], path: &[u8], answer: &[u8]) -> bool {
+    let mut out = buffer();
+    let n = room(answer, &out);
+    let got = builder::resolve_string(sheet, path, &mut out[..n]);
+    text_same(answer, got, &out)
 }
 
-// The lookup calls. The answer: number and kind, number of the text, the buffer's length in 16 bits, the text.
-fn lookup_same(sheet: &[u8], path: &[u8], answer: &[u8], out: &mut [u8]) -> bool {
-    if answer.len() < 5 {
+// The lookup calls: sheet, path, answer. The answer: number and kind, then the text's answer.
+fn lookup_same(case: &[u8]) -> bool {
+    let sheet = field(case, 0);
+    let path = field(case, 1);
+    let answer = field(case, 2);
+    if answer.len() < 2 {
         return false;
     }
-    let r = builder::resolve(sheet, path);
-    if (r.number != answer[0]) | (r.kind != answer[1]) {
+    let got = builder::resolve(sheet, path);
+    if (got.number != answer[0]) | (got.kind != answer[1]) {
         return false;
     }
-    let cap = wide(answer[3]) + 256 * wide(answer[4]);
-    if out.len() < cap {
-        return false;
+    string_same(sheet, path, &answer[2..])
+}
+
+// The include call: bundle, folder, text, and the answer of a text.
+fn includes_same(case: &[u8]) -> bool {
+    let answer = field(case, 3);
+    let mut out = buffer();
+    let n = room(answer, &out);
+    let got = builder::resolve_includes(
+        field(case, 0),
+        field(case, 1),
+        field(case, 2),
+        &mut out[..n],
+    );
+    text_same(answer, got, &out)
+}
+
+// What a case came to: whether the answer is the one given, and how long the case is behind its tag.
+struct Done {
+    pub same: bool,
+    pub len: usize,
+}
+
+// A case by its tag: one arm a call. A tag that is not known differs, and what stands behind it is not read.
+fn replay_case(tag: u8, case: &[u8]) -> Done
+    ensures { λ r. ⌜ r .len ≤ length (now (case .entry)) ⌝ }
+{
+    match tag {
+        0 => Done {
+            same: lookup_same(case),
+            len: behind(case, 3),
+        },
+        1 => Done {
+            same: includes_same(case),
+            len: behind(case, 4),
+        },
+        _ => Done {
+            same: false,
+            len: case.len(),
+        },
     }
-    text_same(sheet, path, answer[2], &answer[5..], &mut out[..cap])
 }
 
 // Prints the number of a case that differs.
@@ -98,34 +189,28 @@ fn differs(case: u64) {
 }
 
 // What was replayed.
-struct Counts {
+struct Tally {
     pub cases: u64,
     pub differing: u64,
 }
 
-// Every case of the input: sheet, path, answer.
-fn replay(input: &[u8], out: &mut [u8]) -> Counts {
+// Every case of the input.
+fn replay(input: &[u8]) -> Tally {
     let mut at: usize = 0;
     let mut cases: u64 = 0;
     let mut differing: u64 = 0;
     while at < input.len() {
-        let sheet = field_at(input, at);
-        let path = field_at(input, sheet.to);
-        let answer = field_at(input, path.to);
-        let a = sheet.from;
-        let b = sheet.to;
-        let c = path.from;
-        let d = path.to;
-        let e = answer.from;
-        let f = answer.to;
-        if !lookup_same(&input[a..b], &input[c..d], &input[e..f], out) {
+        let tag = input[at];
+        at += 1;
+        let done = replay_case(tag, &input[at..]);
+        if !done.same {
             differs(cases);
             differing = std::num::wrapping_add_u64(differing, 1);
         }
         cases = std::num::wrapping_add_u64(cases, 1);
-        at = f;
+        at += done.len;
     }
-    Counts {
+    Tally {
         cases: cases,
         differing: differing,
     }
@@ -134,10 +219,9 @@ fn replay(input: &[u8], out: &mut [u8]) -> Counts {
 fn main() {
     let mut input = io::large_buffer();
     let n = io::read_full(0, &mut input);
-    let mut out = io::buffer();
-    let counts = replay(&input[..n], &mut out);
-    io::print_decimal(STDOUT_FILENO, counts.cases);
+    let tally = replay(&input[..n]);
+    io::print_decimal(STDOUT_FILENO, tally.cases);
     io::write_all(STDOUT_FILENO, b" cases, ");
-    io::print_decimal(STDOUT_FILENO, counts.differing);
+    io::print_decimal(STDOUT_FILENO, tally.differing);
     io::write_all(STDOUT_FILENO, b" differ\n");
 }
