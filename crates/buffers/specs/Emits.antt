@@ -192,6 +192,9 @@ pub record Fills (room : ℕ) (b : List ℕ) (p : ℕ) (v c : List ℕ) (q : ℕ
 pub put-fills : {room : ℕ} {b : List ℕ} {p : ℕ} {v c : List ℕ} {q : ℕ} → p ≤ room + 2 → Put room b p v c q → Fills room b p v c q
 put-fills h s = record { size = put-length s; bound = put-ended s h .0; fills = λ k. put-fill s h k; over = λ k. put-not s h k }
 
+pub fills-room : {room space : ℕ} {b : List ℕ} {p : ℕ} {v c : List ℕ} {q : ℕ} → room ≡ space → Fills room b p v c q → Fills space b p v c q
+fills-room e f = rw e at f
+
 pub emits-fills : {full room : ℕ} {b : List ℕ} {p : ℕ} {v c : List ℕ} {q : ℕ} → p ≤ room → Fills room b p v c q → Emits full room (put v ok) b p c (leb q room) full q
 emits-fills {full} {room} {b} {p} {v} {c} {q} h s = record {
   size = s .size;
