@@ -2,3 +2,4 @@ pub mod Called
 pub mod Values
 pub mod Args
 pub mod Content
+pub mod Link
