@@ -7,46 +7,39 @@ use Rattle.scan.proofs.at.Reads as at-reads
 use Rattle.scan.proofs.find.Reads as find-reads
 use Rattle.scan.proofs.skip.Reads as skip-reads
 use Rattle.scan.proofs.span.Reads as span-reads
+use native.Mathlib.Omega.{arith}
+use borrow.Author.Tests.{not-true, not-false}
+use Rattle.calls.specs.Link.{box-none, box-text}
 
--- src/link.rt:30:30
 add-span : tie.Need-add-span
 add-span c = search needs
 
--- src/link.rt:30:9
 span-requires : tie.Need-span-requires
 span-requires c κs = search needs
 
--- src/link.rt:31:9
 at-requires : tie.Need-at-requires
 at-requires c κs = search needs
 
--- src/link.rt:32:9
 returns : tie.Need-returns
-returns c = ?
+returns c = box-none (c .before .before .before .before .pre) (c .before .before .span .ensures) (c .before .at .ensures) (not-true _ (c .if1 .taken))
 
--- src/link.rt:39:30
 add-find : tie.Need-add-find
 add-find c = search needs
 
--- src/link.rt:39:9
 find-requires : tie.Need-find-requires
-find-requires c κs = ?
+find-requires c κs = omega (arith, c .before .at .ensures .there (not-false _ (c .if1 .left)))
 
--- src/link.rt:40:9
 at-requires-2 : tie.Need-at-requires-2
 at-requires-2 c κs = search needs
 
--- src/link.rt:41:9
 skip-requires : tie.Need-skip-requires
 skip-requires c κs = search needs
 
--- src/link.rt:45:15
 add-t7 : tie.Need-add-t7
 add-t7 c = search needs
 
--- src/link.rt:26:1
 returns-2 : tie.Need-returns-2
-returns-2 c = ?
+returns-2 c = box-text (c .before .before .before .before .before .before .before .pre) (c .before .before .before .before .before .span .ensures) (c .before .before .before .before .at .ensures) (not-false _ (c .before .before .before .if1 .left)) (c .before .before .find .ensures) (c .before .at2 .ensures) (c .skip .ensures)
 
 pub box-end-spec : {M : Type 1} → statement M
 box-end-spec =

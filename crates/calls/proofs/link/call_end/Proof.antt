@@ -8,38 +8,31 @@ use Rattle.scan.proofs.at.Reads as at-reads
 use Rattle.scan.proofs.find.Reads as find-reads
 use Rattle.scan.proofs.skip.Reads as skip-reads
 use Rattle.scan.proofs.span.Reads as span-reads
+use Rattle.calls.specs.Link.{end-box, end-paren}
 
--- src/link.rt:55:9
 span-requires : tie.Need-span-requires
 span-requires c κs = search needs
 
--- src/link.rt:56:8
 at-requires : tie.Need-at-requires
 at-requires c κs = search needs
 
--- src/link.rt:57:9
 box-end-requires : tie.Need-box-end-requires
-box-end-requires c κs = ?
+box-end-requires c κs = c .before .at .ensures .there (c .if1 .taken)
 
--- src/link.rt:57:9
 returns : tie.Need-returns
-returns c = ?
+returns c = end-box (c .before .before .before .span .ensures) (c .before .before .at .ensures) (c .before .if1 .taken) (c .box-end .ensures)
 
--- src/link.rt:59:9
 find-requires : tie.Need-find-requires
 find-requires c κs = search needs
 
--- src/link.rt:60:9
 at-requires-2 : tie.Need-at-requires-2
 at-requires-2 c κs = search needs
 
--- src/link.rt:61:9
 skip-requires : tie.Need-skip-requires
 skip-requires c κs = search needs
 
--- src/link.rt:51:1
 returns-2 : tie.Need-returns-2
-returns-2 c = ?
+returns-2 c = end-paren (c .before .before .before .before .before .span .ensures) (c .before .before .before .before .at .ensures) (c .before .before .before .if1 .left) (c .before .before .find .ensures) (c .before .at2 .ensures) (c .skip .ensures)
 
 pub call-end-spec : {M : Type 1} → statement M
 call-end-spec =

@@ -8,66 +8,58 @@ use Rattle.calls.proofs.link.put_link.Reads as put-link-reads
 use Rattle.scan.proofs.at.Reads as at-reads
 use Rattle.scan.proofs.span.Reads as span-reads
 use Rattle.strings.proofs.expression.Reads as expression-reads
+use native.Mathlib.Omega.{arith}
+use lib.ListN.{length-take, length-drop}
+use Rattle.buffers.specs.Laws.{put-ended, put-length}
+use Rattle.calls.specs.Link.{link-back, link-put}
 
--- src/link.rt:109:9
 span-requires : tie.Need-span-requires
 span-requires c κs = search needs
 
--- src/link.rt:110:8
 at-requires : tie.Need-at-requires
 at-requires c κs = search needs
 
--- src/link.rt:111:9
 returns : tie.Need-returns
-returns c = ?
+returns c = λ s. link-back _ (c .before .before .span .ensures) (c .before .at .ensures) (c .if1 .taken)
 
--- src/link.rt:117:33
 sub-expression : tie.Need-sub-expression
 sub-expression c = search needs
 
--- src/link.rt:117:33
 part-expression-start : tie.Need-part-expression-start
 part-expression-start c = search needs
 
--- src/link.rt:117:33
 part-expression-end : tie.Need-part-expression-end
 part-expression-end c = search needs
 
--- src/link.rt:117:9
 expression-requires : tie.Need-expression-requires
 expression-requires c κs = search needs
 
--- src/link.rt:118:28
 add-call-end : tie.Need-add-call-end
-add-call-end c = ?
+add-call-end c = omega (arith, simp (length-take, length-drop) at (c .before .before .before .expression .ensures (c .before .before .before .before .before .before .before .before .before .before .before .before .pre .2) .inside))
 
--- src/link.rt:118:9
 call-end-requires : tie.Need-call-end-requires
-call-end-requires c κs = ?
+call-end-requires c κs = omega (arith, simp (length-take, length-drop) at (c .before .before .before .expression .ensures (c .before .before .before .before .before .before .before .before .before .before .before .before .pre .2) .inside))
 
--- src/link.rt:121:25
 sub-put-link : tie.Need-sub-put-link
 sub-put-link c = search needs
 
--- src/link.rt:121:25
 part-put-link-start : tie.Need-part-put-link-start
 part-put-link-start c = search needs
 
--- src/link.rt:121:25
 part-put-link-end : tie.Need-part-put-link-end
 part-put-link-end c = search needs
 
--- src/link.rt:121:9
 put-link-requires : tie.Need-put-link-requires
-put-link-requires c κs = ?
+put-link-requires c κs =
+    let e = put-ended (c .before .before .before .before .before .before .expression .ensures (c .before .before .before .before .before .before .before .before .before .before .before .before .before .before .before .pre .2) .put) (search needs) in
+    let l = put-length (c .before .before .before .before .before .before .expression .ensures (c .before .before .before .before .before .before .before .before .before .before .before .before .before .before .before .pre .2) .put) in
+    search needs
 
--- src/link.rt:105:1
 same-length : tie.Need-same-length
 same-length c = search needs
 
--- src/link.rt:105:1
 returns-2 : tie.Need-returns-2
-returns-2 c = ?
+returns-2 c = λ s. link-put _ (c .before .before .before .before .before .before .before .before .before .before .before .before .before .before .span .ensures) (c .before .before .before .before .before .before .before .before .before .before .before .before .before .at .ensures) (c .before .before .before .before .before .before .before .before .before .before .before .before .if1 .left) (c .before .before .before .before .before .before .before .before .before .before .before .before .before .before .before .before .before .before .pre .1) (c .before .before .before .before .before .before .before .before .before .expression .ensures s) (c .before .before .before .before .before .call-end .ensures) (c .before .before .put-link .ensures)
 
 pub link-spec : {M : Type 1} → statement M
 link-spec =
