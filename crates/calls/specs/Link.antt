@@ -1,28 +1,27 @@
 -- The link call.
 use mathlib.Core.Path.{_≡_, refl, sym, ap, _∙_}
 use mathlib.Core.List.{List, [], _∷_, _++_, append-assoc}
-use mathlib.Core.Bool.{Bool, true, false, _||_}
-use Prim.Native.Nat.{ℕ, zero, suc, _+_, _-_, _≤_, _<_}
+use mathlib.Core.Bool.{Bool, true, false}
+use Prim.Native.Nat.{ℕ, suc, _+_, _-_, _≤_, _<_}
 use native.Mathlib.Omega.{arith}
 use native.Mathlib.Nat.{add-zero}
 use lib.ListN.{length, take, drop, set, length-append, length-drop}
 use lib.Seq.{sets, sets-eq, length-take-le, take-at, drop-at, drop-drop}
-use Rattle.rules.specs.Reader.{Reader, bytes, empty, same, span, sees, skip, ret, ifR, _>>=_, _>>_}
+use Rattle.rules.specs.Reader.{Reader, bytes, empty, same, ret, ifR, _>>=_, _>>_}
 use Rattle.rules.specs.Bytes.{blank, lineBlank}
 use Rattle.rules.specs.Strings.{expression}
-use Rattle.rules.specs.Expansion.{Call, handsBack, outputs, linkText, linkBox, linkEnd, link}
+use Rattle.rules.specs.Expansion.{Call, outputs, linkText, linkBox, linkEnd, link}
 use Rattle.scan.specs.Sets.{byteIs, notByte, part, Spans, Skips, Sees}
 use Rattle.scan.specs.Laws.{skip-at}
 use Rattle.scan.specs.Paths.{drop-take, tail-part}
 use Rattle.scan.specs.Stretches.{spans-but}
 use Rattle.strings.specs.Read.{Wrote}
 use Rattle.strings.specs.Laws.{seen, sees-char}
-use Rattle.buffers.specs.Put.{Put, after}
+use Rattle.buffers.specs.Put.{Put}
 use Rattle.buffers.specs.Laws.{after-fits, put-length, put-fits, put-ended, put-not, put-then}
 use Rattle.buffers.specs.Move.{sets-front}
-use Rattle.buffers.specs.Emits.{Fill, Fills, fill-then, put-fill, put-fills}
+use Rattle.buffers.specs.Emits.{Fills, fill-then, put-fills}
 use Rattle.calls.specs.declared.Outcome.the-variants.{HandedBack, Output}
-use Rattle.calls.specs.declared.Called.{Called}
 use Rattle.calls.specs.declared.link.Ending.{Ending}
 use Rattle.calls.specs.Called.{Says, Calls}
 
