@@ -3,3 +3,4 @@ pub mod Values
 pub mod Args
 pub mod Content
 pub mod Raw
+pub mod Link

@@ -9,7 +9,7 @@ use crate::values::Value;
 use crate::values::literal_end;
 
 // Are two texts the same?
-fn same(p: &[u8], q: &[u8]) -> bool
+pub fn same(p: &[u8], q: &[u8]) -> bool
     ensures { λ r. ⌜ r ≡ same (now (p .entry)) (now (q .entry)) ⌝ }
 {
     (p.len() == q.len()) & scan::starts_with(q, 0, p)

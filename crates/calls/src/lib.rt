@@ -2,6 +2,7 @@
 pub mod args;
 pub mod content;
 pub mod raw;
+pub mod link;
 pub mod values;
 
 // What a call comes to: handed back; refused; an output, and whether the call ends on its own `)` or `]`.
