@@ -15,7 +15,7 @@ use Rattle.rules.specs.Run.{Emit, ok, put, fail, andThen, Did, Trace, fin, step
 use Rattle.rules.specs.Laws.Answer.{not-both, accepted-same}
 use Rattle.rules.specs.Laws.Limit.{write-inv}
 use Rattle.buffers.specs.Put.{Put}
-use Rattle.buffers.specs.Laws.{put-length, put-fits, put-not, sets-append}
+use Rattle.buffers.specs.Laws.{put-length, put-fits, put-not, put-ended, sets-append}
 
 -- The text v stands in the buffer from p on, and the writer goes on at q. What lies behind q is not told.
 pub record Fill (b : List ℕ) (p : ℕ) (v c : List ℕ) (q : ℕ) : Type 0 where
@@ -185,11 +185,12 @@ module _ {full room : ℕ} {e : Emit} {b : List ℕ} {p : ℕ} {c : List ℕ} {q
 -- A piece that is put: it fits, or not.
 pub record Fills (room : ℕ) (b : List ℕ) (p : ℕ) (v c : List ℕ) (q : ℕ) : Type 0 where
   pub size : length c ≡ length b
+  pub bound : q ≤ room + 2
   pub fills : q ≤ room → Fill b p v c q
   pub over : room < q → room < p + length v
 
 pub put-fills : {room : ℕ} {b : List ℕ} {p : ℕ} {v c : List ℕ} {q : ℕ} → p ≤ room + 2 → Put room b p v c q → Fills room b p v c q
-put-fills h s = record { size = put-length s; fills = λ k. put-fill s h k; over = λ k. put-not s h k }
+put-fills h s = record { size = put-length s; bound = put-ended s h .0; fills = λ k. put-fill s h k; over = λ k. put-not s h k }
 
 pub emits-fills : {full room : ℕ} {b : List ℕ} {p : ℕ} {v c : List ℕ} {q : ℕ} → p ≤ room → Fills room b p v c q → Emits full room (put v ok) b p c (leb q room) full q
 emits-fills {full} {room} {b} {p} {v} {c} {q} h s = record {

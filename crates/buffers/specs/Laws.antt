@@ -9,7 +9,7 @@ use native.Mathlib.Nat.{add-zero, sub-zero, suc-sub-suc}
 use native.Mathlib.Decide.{decLe}
 use lib.Dec.{leb, ltb, eqb, eqb·suc-zero}
 use lib.ListN.{length, take, drop, getD, set, length-append, length-set, length-drop, take-append-drop, drop-of-length-le, replicate}
-use lib.Seq.{sets, set-out, length-sets, length-take-le, drop-cons, take-suc, take-all}
+use lib.Seq.{sets, sets-eq, set-out, length-sets, length-take-le, drop-cons, take-suc, take-all, take-append-seam}
 use borrow.Author.Tests.{lt-ltb, le-ltb, le-leb, lt-leb}
 use Rattle.rules.specs.Reader.{all, span}
 use Rattle.rules.specs.Bytes.{blank}
@@ -122,6 +122,10 @@ sets-clipped b p t i h k = go (decLe (length t) i)
         let m : length (take i t) ≡ i = length-take-le i t k in
         let e : sets (sets b p (take i t)) (p + length (take i t)) (drop i t) ≡ sets b p t = sets-append b p (take i t) (drop i t) ∙ ap (sets b p) (take-append-drop i t) in
         sym (sets-out (sets b p (take i t)) (p + length (take i t)) (drop i t) (omega (arith, length-sets b p (take i t)))) ∙ e
+
+-- What is stored at the start.
+pub stored-first : (b t : List ℕ) → length t ≤ length b → take (length t) (sets b 0 t) ≡ t
+stored-first b t h = rw (sets-eq t b 0 (omega arith)) (take-append-seam t _)
 
 -- TEXTS put one after the other, into a buffer that is no longer than the room.
 pub put-none : (room : ℕ) (b : List ℕ) (p : ℕ) → Put room b p [] b p

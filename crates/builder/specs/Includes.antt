@@ -20,7 +20,7 @@ use Rattle.rules.specs.Laws.Bool.{isSome, true-some, false-some}
 use Rattle.bundle.specs.Find.{entriesOf, entries-some}
 use Rattle.buffers.specs.Emits.{limited-write}
 use Rattle.includes.specs.Resolve.{Resolves}
-use Rattle.builder.specs.Laws.{stored-first}
+use Rattle.buffers.specs.Laws.{stored-first}
 
 module _ (b g t : List ℕ) (n : ℕ) where
   pub includes-two : isSome (bundleOf b) ≡ false → resolveIncludesOf b g t n ≡ record { number = 2; len = 0; out = zeros n }

@@ -7,7 +7,7 @@ use Prim.Native.Nat.{ℕ, _-_, _≤_, _<_}
 use native.Mathlib.Omega.{arith}
 use lib.Dec.{leb}
 use lib.ListN.{length, take, drop, getD}
-use lib.Seq.{sets, sets-eq, length-sets, take-append-seam}
+use lib.Seq.{sets, length-sets}
 use borrow.Author.Tests.{le-leb, lt-leb}
 use Rattle.rules.specs.Answer.{Answer, accepted, _>>=_, _>>_, check, orRefuse}
 use Rattle.rules.specs.Reader.{all}
@@ -20,6 +20,7 @@ use Rattle.sheet.specs.declared.lookup.Found.the-variants.{Missing, None, Text,
 use Rattle.sheet.specs.Use.{all-bytes, Checked, checked, to-look}
 use Rattle.sheet.specs.Order.{asked}
 use Rattle.sheet.specs.Find.{IsSheet, Gives, foundKind, foundText, gives-kind, gives-string}
+use Rattle.buffers.specs.Laws.{stored-first}
 use Rattle.builder.specs.Text.{TextAt, Gave, Refuses}
 
 -- A slice whose check says yes.
@@ -91,9 +92,6 @@ module _ (s p : List ℕ) (bytes : (i : ℕ) → getD s i 0 < 256) (h : isSome (
 pub gave-eleven : (t : List ℕ) (n : ℕ) (before after : List ℕ) (number len : ℕ) → n < length t → n ≡ length before → Refuses before after 11 number len → Gave t n after number len
 unfolding outputAnswer check _>>_
 gave-eleven t n before after number len h l r = record { is = rw (lt-leb (length t) n h) (refused-text _ 11 n before after number len refl l r) }
-
-pub stored-first : (b t : List ℕ) → length t ≤ length b → take (length t) (sets b 0 t) ≡ t
-stored-first b t h = rw (sets-eq t b 0 (omega arith)) (take-append-seam t _)
 
 pub gave-text : (t : List ℕ) (n : ℕ) (b c d : List ℕ) (m : ℕ) → length t ≤ n → n ≡ length b → m ≡ length t → c ≡ sets b 0 t → d ≡ padded (length c) (take m c) → Gave t n d 0 m
 unfolding outputAnswer check _>>_

@@ -9,7 +9,7 @@ use lib.ListN.{length, take, drop}
 use lib.Seq.{length-take-le, take-length, take-take}
 use Rattle.rules.specs.Answer.{Answer, refused, accepted, _>>=_, _>>_, check}
 use Rattle.rules.specs.Reader.{bytes, all, but}
-use Rattle.rules.specs.Bytes.{ascii, isPath, join, parent, holds}
+use Rattle.rules.specs.Bytes.{ascii, isPath, isSegment, split, join, parent, holds}
 use Rattle.rules.specs.Bundle.{Entry}
 use Rattle.rules.specs.Files.{View, File, absent, folder, file, view, contentOf, fetch, plain, opened, exists, hasCitation, upward, projectRoot}
 use Rattle.scan.specs.Paths.{Parent}
@@ -80,6 +80,23 @@ module _ (b p : List ℕ) (v : View) where
   pub open-text : {f : Opened} → Opens b (fetch v p) f → {s n : ℕ} → f ≡ Text s n → {r : Opened} → Opens b (plain (take n (drop s b))) r → Opens b (opened v p) r
   unfolding opened _>>=_ answerOf
   open-text k q o = record { says = rw (k .says, q) (o .says); inside = o .inside }
+
+-- A path that is too long: 4.
+long-path : (p : List ℕ) → leb (length p) 255 ≡ false → isPath p ≡ false
+unfolding isPath
+long-path p h = rw h (at (leb 1 (length p)) (all isSegment (split "/" p)))
+  where
+    at : (a c : Bool) → (a && false && c) ≡ false
+    at true c = refl
+    at false c = refl
+
+pub long-fetch : (v : View) (p : List ℕ) → leb (length p) 255 ≡ false → fetch v p ≡ refused 4
+unfolding fetch check _>>_
+long-fetch v p h = rw (long-path p h) refl
+
+pub long-opened : (b : List ℕ) (v : View) (p : List ℕ) → leb (length p) 255 ≡ false → Opens b (opened v p) (Refused 4)
+unfolding opened _>>=_ answerOf
+long-opened b v p h = record { says = rw (long-fetch v p h) refl; inside = omega arith }
 
 -- CITATION.cff.
 abbrev pub there : Found → Bool

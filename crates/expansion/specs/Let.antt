@@ -12,11 +12,10 @@ use Rattle.rules.specs.Sheet.{Value, text, nothing, dictionary, Records, encode
 use Rattle.rules.specs.Expansion.{binds, importStep, letValue, letStep}
 use Rattle.rules.specs.Laws.Sheet.{resolve-good, set-good}
 use Rattle.rules.specs.Laws.Texts.{all-left, all-right, underscored-words}
-use Rattle.scan.specs.Sets.{Spans, Skips}
+use Rattle.scan.specs.Sets.{part, Spans, Skips}
 use Rattle.scan.specs.Stretches.{span-took}
 use Rattle.scan.specs.Paths.{Trims}
 use Rattle.scan.specs.declared.paths.Range.{Range}
-use Rattle.sheet.specs.Parts.{slice}
 use Rattle.sheet.specs.Order.{asked}
 use Rattle.sheet.specs.Find.{IsSheet, Gives}
 use Rattle.sheet.specs.Write.{BindsTo, IsThere}
@@ -42,8 +41,8 @@ pub record IsLine (t : List ℕ) (at : ℕ) (r : Line) : Type 0 where
   pub text-inside : r .end ≤ length t
   pub on : at ≤ r .next
   pub inside : r .next ≤ length t
-  pub named : all nameByte (slice (r .from) (r .to) t) ≡ true
-  pub does : (s : Records) → letStep s (drop at t) ≡ (binds (set s (underscored (slice (r .from) (r .to) t)) (letValue (slice (r .start) (r .end) t) (resolve s (slice (r .start) (r .end) t)))), drop (r .next) t)
+  pub named : all nameByte (part t (r .from) (r .to)) ≡ true
+  pub does : (s : Records) → letStep s (drop at t) ≡ (binds (set s (underscored (part t (r .from) (r .to))) (letValue (part t (r .start) (r .end)) (resolve s (part t (r .start) (r .end))))), drop (r .next) t)
 
 -- The name is bound in the first n bytes of b to the text v, or to what that is looked up as.
 pub record BindsLine (b : List ℕ) (n limit : ℕ) (name v c : List ℕ) (o : Bound) : Type 0 where
@@ -126,10 +125,10 @@ module _ (b : List ℕ) (n : ℕ) (v : List ℕ) (f : Found) (told : (r : Record
     }
 
 -- THE STEP.
-all-slice : (q : ℕ → Bool) (a e : ℕ) (t : List ℕ) → all q t ≡ true → all q (slice a e t) ≡ true
-all-slice q a e t h =
+all-part : (q : ℕ → Bool) (a e : ℕ) (t : List ℕ) → all q t ≡ true → all q (part t a e) ≡ true
+all-part q a e t h =
     let d : all q (drop a t) ≡ true = all-right q (take a t) (drop a t) (ap (all q) (take-append-drop a t) ∙ h) in
-    all-left q (slice a e t) (drop (e - a) (drop a t)) (ap (all q) (take-append-drop (e - a) (drop a t)) ∙ d)
+    all-left q (part t a e) (drop (e - a) (drop a t)) (ap (all q) (take-append-drop (e - a) (drop a t)) ∙ d)
 
 -- What a `#let` binds is good.
 good-line : (s : Records) (v : List ℕ) (x : Option Value) → resolve s v ≡ x → goodRecords s word 6 ≡ true → all ascii v ≡ true → goodValue (letValue v x) 6 ≡ true
@@ -137,7 +136,7 @@ unfolding letValue goodValue
 good-line s v none e g a = a
 good-line s v (some w) e g a = resolve-good s word 6 v w g e
 
-module _ {t : List ℕ} {at : ℕ} {l : Line} (i : IsLine t at l) {b : List ℕ} {n limit : ℕ} {c : List ℕ} {o : Bound} (w : BindsLine b n limit (slice (l .from) (l .to) t) (slice (l .start) (l .end) t) c o) where
+module _ {t : List ℕ} {at : ℕ} {l : Line} (i : IsLine t at l) {b : List ℕ} {n limit : ℕ} {c : List ℕ} {o : Bound} (w : BindsLine b n limit (part t (l .from) (l .to)) (part t (l .start) (l .end)) c o) where
   pub let-over : {k : ℕ} → o ≡ Over → Lets limit t at b n c (record { ok = false; at = l .next; len = k })
   let-over e = record {
     size = w .size;
@@ -152,7 +151,7 @@ module _ {t : List ℕ} {at : ℕ} {l : Line} (i : IsLine t at l) {b : List ℕ}
     on = i .on;
     inside = i .inside;
     leaves = λ s.
-        let v = slice (l .start) (l .end) t in
+        let v = part t (l .start) (l .end) in
         let y = bound-bytes (s .r) (s .bytes) (rw e at (w .binds s)) in
         record {
           to = _;
@@ -161,7 +160,7 @@ module _ {t : List ℕ} {at : ℕ} {l : Line} (i : IsLine t at l) {b : List ℕ}
             bytes = y .1;
             long = y .2;
             fits = y .0;
-            good = set-good (s .r) word 6 _ _ (s .good) (underscored-words _ (i .named)) (good-line (s .r) v (resolve (s .r) v) refl (s .good) (all-slice ascii (l .start) (l .end) t a));
+            good = set-good (s .r) word 6 _ _ (s .good) (underscored-words _ (i .named)) (good-line (s .r) v (resolve (s .r) v) refl (s .good) (all-part ascii (l .start) (l .end) t a));
           };
           stops = λ z. absurd (true≢false z);
         };

@@ -11,8 +11,7 @@ use Rattle.rules.specs.Run.{ok, put}
 use Rattle.rules.specs.Bytes.{letter, runByte, underscored}
 use Rattle.rules.specs.Sheet.{Records, resolveString}
 use Rattle.rules.specs.Expansion.{writes, referenceStep}
-use Rattle.scan.specs.Sets.{Spans, Sees}
-use Rattle.sheet.specs.Parts.{slice}
+use Rattle.scan.specs.Sets.{part, Spans, Sees}
 use Rattle.sheet.specs.Find.{IsSheet}
 use Rattle.buffers.specs.Put.{Put, Writer}
 use Rattle.buffers.specs.Laws.{put-then, put-length}
@@ -39,11 +38,11 @@ module _ (s : Records) {t : List ℕ} {at : ℕ} {l : Bool} (x : Sees letter t a
   step-other e = rw (x .says, e) refl
 
   module _ (h : l ≡ true) {e : ℕ} (y : Spans runByte t at e) {f : Bool} (k : Sees (the "(") t e f) where
-    step-called : f ≡ true → referenceStep s (drop at t) ≡ (writes s (bytes "#" ++ slice at e t), drop e t)
+    step-called : f ≡ true → referenceStep s (drop at t) ≡ (writes s (bytes "#" ++ part t at e), drop e t)
     unfolding referenceStep ret ifR _>>=_
     step-called g = rw (x .says, h, y .rest, y .took, k .says, g) refl
 
-    step-reference : f ≡ false → referenceStep s (drop at t) ≡ (writes s (resolveString s (underscored (slice at e t))), drop e t)
+    step-reference : f ≡ false → referenceStep s (drop at t) ≡ (writes s (resolveString s (underscored (part t at e))), drop e t)
     unfolding referenceStep ret ifR _>>=_
     step-reference g = rw (x .says, h, y .rest, y .took, k .says, g) refl
 
@@ -58,20 +57,20 @@ module _ {t : List ℕ} {at : ℕ} {l : Bool} (x : Sees letter t at l) {room p :
   }
 
   module _ (h : l ≡ true) {e : ℕ} (y : Spans runByte t at e) {f : Bool} (k : Sees (the "(") t e f) where
-    pub refers-called : f ≡ true → length b ≤ room → {d : List ℕ} {m : ℕ} → Put room b p (bytes "#") d m → Put room d m (slice at e t) c q → Refers t at z full room b p c (record { ok = leb q room; number = full; at = e; next = q })
+    pub refers-called : f ≡ true → length b ≤ room → {d : List ℕ} {m : ℕ} → Put room b p (bytes "#") d m → Put room d m (part t at e) c q → Refers t at z full room b p c (record { ok = leb q room; number = full; at = e; next = q })
     refers-called g o u v =
         let both = put-then u o (w .place) v in
         record {
           size = put-length both;
           on = y .on;
           inside = y .inside;
-          puts = λ s. record { text = bytes "#" ++ slice at e t; does = step-called (s .r) x h y k g; emits = emits-put n both };
+          puts = λ s. record { text = bytes "#" ++ part t at e; does = step-called (s .r) x h y k g; emits = emits-put n both };
         }
 
-    pub refers-text : f ≡ false → IsSheet z → ((s : IsSheet z) → Put room b p (resolveString (s .r) (underscored (slice at e t))) c q) → Refers t at z full room b p c (record { ok = leb q room; number = full; at = e; next = q })
+    pub refers-text : f ≡ false → IsSheet z → ((s : IsSheet z) → Put room b p (resolveString (s .r) (underscored (part t at e))) c q) → Refers t at z full room b p c (record { ok = leb q room; number = full; at = e; next = q })
     refers-text g i u = record {
       size = put-length (u i);
       on = y .on;
       inside = y .inside;
-      puts = λ s. record { text = resolveString (s .r) (underscored (slice at e t)); does = step-reference (s .r) x h y k g; emits = emits-put n (u s) };
+      puts = λ s. record { text = resolveString (s .r) (underscored (part t at e)); does = step-reference (s .r) x h y k g; emits = emits-put n (u s) };
     }

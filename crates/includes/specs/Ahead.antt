@@ -11,16 +11,12 @@ use borrow.Author.Tests.{leb-true}
 use Rattle.rules.specs.Reader.{span, sees, skip, the, but, _>>=_, _>>_, ret}
 use Rattle.rules.specs.Includes.{Quoted, unquoted, quoted, quotedIf, quote}
 use Rattle.rules.specs.Laws.Bool.{and-l, and-r}
-use Rattle.scan.specs.Sets.{Spans, Skips, Sees, notByte, byteIs}
+use Rattle.scan.specs.Sets.{part, Spans, Skips, Sees, notByte, byteIs}
 use Rattle.scan.specs.Laws.{sees-is, sees-end, skips-at}
 use Rattle.scan.specs.Stretches.{spans-later, spans-stop}
 use Rattle.includes.specs.declared.ahead.Ahead.{Ahead}
 use Rattle.includes.specs.declared.ahead.Known.{Known}
 use Rattle.includes.specs.declared.ahead.Pair.{Pair}
-
--- The part of a text from a to b.
-abbrev pub part : List ℕ → ℕ → ℕ → List ℕ
-part t a b = take (b - a) (drop a t)
 
 -- What is kept of a search is true of the text.
 pub record Knows (p : ℕ → Bool) (t : List ℕ) (k : Ahead) : Type 0 where
@@ -61,11 +57,6 @@ module _ {p : ℕ → Bool} {t : List ℕ} where
   knows-new s = record { there = λ h. s }
 
 -- QUOTES.
--- The stretches that a search for a byte gives are those of the rules.
-pub spans-but : (c : Char) {t : List ℕ} {i j : ℕ} → Spans (notByte (code c)) t i j → Spans (but c) t i j
-unfolding but
-spans-but c s = s
-
 -- The byte at the end of a stretch without it.
 pub sees-stop : (c : Char) {t : List ℕ} {i j : ℕ} → Spans (but c) t i j → j < length t → Sees (the c) t j true
 unfolding but the

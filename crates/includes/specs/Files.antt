@@ -11,18 +11,18 @@ use borrow.Author.Tests.{le-leb, lt-leb, leb-true, leb-false, eq-eqb, ne-eqb}
 use Rattle.rules.specs.Answer.{Answer, refused, accepted, _>>=_, _>>_, check}
 use Rattle.rules.specs.Reader.{bytes, all, empty}
 use Rattle.rules.specs.Run.{Emit, ok, put, fail, andThen, run, emitted, endsInNewline}
-use Rattle.rules.specs.Bytes.{ascii, isPath, isSegment, split, join, parent}
+use Rattle.rules.specs.Bytes.{ascii, join, parent}
 use Rattle.rules.specs.Files.{View, fetch, opened, plain}
 use Rattle.rules.specs.Includes.{lastNewline, fenced, included, insideFile, includeStep}
 use Rattle.buffers.specs.Put.{Put, Writer}
 use Rattle.buffers.specs.Laws.{put-length, put-writer, put-then}
 use Rattle.scan.specs.Paths.{Joins, Parent}
 use Rattle.scan.specs.declared.paths.Joined.{Joined}
-use Rattle.bundle.specs.Open.{Opens, answerOf}
+use Rattle.bundle.specs.Open.{Opens, answerOf, long-fetch, long-opened}
 use Rattle.bundle.specs.declared.Opened.{Opened}
 use Rattle.bundle.specs.declared.Opened.the-variants.{Refused, Text}
 use Rattle.includes.specs.declared.files.File.{File}
-use Rattle.includes.specs.Ahead.{part}
+use Rattle.scan.specs.Sets.{part}
 use Rattle.buffers.specs.Emits.{Emits, Writes, write-refused, Going, going-start, going-on, going-no, going-end, emits-put, emits-fail}
 
 -- A file that is refused.
@@ -110,23 +110,10 @@ block-put {room} {b} {p} {l} {c} w h s₁ s₂ s₃ s₄ s₅ =
     let l₃ = put-length s₃ in
     put-then s₁ h (w .place) (put-then s₂ (omega arith) (w₁ .place) (put-then s₃ (omega arith) (w₂ .place) (put-then s₄ (omega arith) (w₃ .place) s₅)))
 
--- OPENING. A path that is too long is refused with 4.
-long-path : (p : List ℕ) → leb (length p) 255 ≡ false → isPath p ≡ false
-unfolding isPath
-long-path p h = rw h (at (leb 1 (length p)) (all isSegment (split "/" p)))
-  where
-    at : (a c : Bool) → (a && false && c) ≡ false
-    at true c = refl
-    at false c = refl
-
-long-fetch : (v : View) (p : List ℕ) → leb (length p) 255 ≡ false → fetch v p ≡ refused 4
-unfolding fetch check _>>_
-long-fetch v p h = rw (long-path p h) refl
-
+-- OPENING.
 module _ (b : List ℕ) (v : View) {g p q : List ℕ} {j : Joined} (k : Joins g p j) (e : g ≡ q) where
   pub source-long : j .ok ≡ false → Opens b (opened v (join q p)) (Refused 4)
-  unfolding opened _>>=_ answerOf
-  source-long h = record { says = rw (long-fetch v (join q p) (ap (λ z. leb (length (join z p)) 255) (sym e) ∙ sym (k .says) ∙ h)) refl; inside = omega arith }
+  source-long h = long-opened b v (join q p) (ap (λ z. leb (length (join z p)) 255) (sym e) ∙ sym (k .says) ∙ h)
 
   pub source-path : j .ok ≡ true → {r : Opened} → Opens b (opened v (take (j .len) (j .bytes))) r → Opens b (opened v (join q p)) r
   source-path h o = rw (k .text h ∙ ap (λ z. join z p) e) at o

@@ -19,6 +19,7 @@ use Rattle.rules.specs.Includes.{includeStep, copyByte, commented}
 use Rattle.rules.specs.Laws.Bool.{and-l, and-r, and-i}
 use Rattle.rules.specs.Laws.Enough.{run-step}
 use Rattle.scan.specs.Sets.{Spans, Starts, notByte}
+use Rattle.scan.specs.Laws.{mark-of}
 use Rattle.scan.specs.Stretches.{spans-each}
 use Rattle.buffers.specs.Emits.{write-none, write-same, write-join}
 
@@ -50,20 +51,12 @@ no-mark t true b p q h = absurd (omega (arith, (rw (p, markLength) at h)))
 no-mark t false true p q h = absurd (omega (arith, (rw (p, q, markLength) at h)))
 no-mark t false false p q h = (refl, refl)
 
-pub mark-no : (m t : List ℕ) → prefix m t ≡ false → mark m t ≡ (false, t)
-unfolding mark
-mark-no m t h = rw (h, mark)
-
-pub mark-yes : (m t : List ℕ) → prefix m t ≡ true → mark m t ≡ (true, drop (length m) t)
-unfolding mark
-mark-yes m t h = rw (h, mark)
-
 module _ (v : View) (inside : List ℕ → List ℕ → Emit) (g : List ℕ) where
   copy-step : (h t : List ℕ) → markLength t ≡ 0 → includeStep v inside g h t ≡ copyByte h t
   unfolding includeStep _>>=_ ifR
   copy-step h t m =
       let n = no-mark t (prefix (bytes "#include") t) (prefix (bytes "#source-include") t) refl refl m in
-      rw (mark-no (bytes "#include") t (n .0), mark-no (bytes "#source-include") t (n .1)) refl
+      rw (mark-of (bytes "#include") t false (n .0), mark-of (bytes "#source-include") t false (n .1)) refl
 
   -- The steps that copy the bytes of a text, from h on, then what follows.
   unfoldable copies : List ℕ → List ℕ → Trace (List ℕ) → Trace (List ℕ)

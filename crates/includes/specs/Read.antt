@@ -16,7 +16,7 @@ use Rattle.rules.specs.Bytes.{blank, trim, join}
 use Rattle.rules.specs.Files.{View, fetch, opened, projectRoot}
 use Rattle.rules.specs.Includes.{Quoted, unquoted, quoted, quotedIf, quote, Source, noParen, noPath, noLanguage, source, withLanguage, withPath, sourceArguments, overParen, toNewline, behindSource, fenced, wrote, copied, commented, included, includeOf, includeMark, sourceText, sourceOf, sourceMark, includeStep}
 use Rattle.scan.specs.Sets.{Spans, Skips, Sees, Starts, notByte, byteIs}
-use Rattle.scan.specs.Laws.{skips-at}
+use Rattle.scan.specs.Laws.{skips-at, mark-of}
 use Rattle.scan.specs.Paths.{Trims}
 use Rattle.scan.specs.declared.paths.Range.{Range}
 use Rattle.rules.specs.Laws.Bool.{and-l, and-r, true-eqb}
@@ -27,8 +27,10 @@ use Rattle.includes.specs.declared.read.Reading.{Reading}
 use Rattle.includes.specs.declared.read.Reading.the-variants.{Copied, Include, Source as Shown}
 use Rattle.includes.specs.declared.read.Read.{Read}
 use Rattle.includes.specs.declared.read.Behind.{Behind}
-use Rattle.includes.specs.Ahead.{part, Knows, KnowsAll, Quotes, knows-new, spans-but, sees-stop, sees-none}
-use Rattle.includes.specs.Marks.{markLength, stretch, mark-yes, mark-no}
+use Rattle.scan.specs.Sets.{part}
+use Rattle.includes.specs.Ahead.{Knows, KnowsAll, Quotes, knows-new, sees-stop, sees-none}
+use Rattle.scan.specs.Stretches.{spans-but}
+use Rattle.includes.specs.Marks.{markLength, stretch}
 
 -- What is written for what was read. g: the current folder, t: the text.
 unfoldable pub emitOf : View → (List ℕ → List ℕ → Emit) → List ℕ → List ℕ → Reading → Emit
@@ -270,12 +272,12 @@ module _ (t : List ℕ) (from at : ℕ) {c : Bool} (y : c ≡ commented (stretch
 
   step-include : prefix (bytes "#include") (drop at t) ≡ true → (v : View) (f : List ℕ → List ℕ → Emit) (g : List ℕ) → Step v f g (drop at t) ≡ ifR c (ret (copied (bytes "#include"))) (includeMark v f g) (drop (at + 8) t)
   unfolding includeStep _>>=_ ifR
-  step-include h v f g = rw (mark-yes (bytes "#include") (drop at t) h, drop-drop 8 at t, sym y) refl
+  step-include h v f g = rw (mark-of (bytes "#include") (drop at t) true h, drop-drop 8 at t, sym y) refl
 
   step-source : prefix (bytes "#include") (drop at t) ≡ false → prefix (bytes "#source-include") (drop at t) ≡ true → (v : View) (f : List ℕ → List ℕ → Emit) (g : List ℕ) →
       Step v f g (drop at t) ≡ ifR c (ret (copied (bytes "#source-include"))) (sourceMark v f g) (drop (at + 15) t)
   unfolding includeStep _>>=_ ifR
-  step-source i h v f g = rw (mark-no (bytes "#include") (drop at t) i, mark-yes (bytes "#source-include") (drop at t) h, drop-drop 15 at t, sym y) refl
+  step-source i h v f g = rw (mark-of (bytes "#include") (drop at t) false i, mark-of (bytes "#source-include") (drop at t) true h, drop-drop 15 at t, sym y) refl
 
   -- A mark m of the text, by what the step does behind it.
   module _ (m : List ℕ) (st : Stands m t at (at + length m)) (q : View → (List ℕ → List ℕ → Emit) → List ℕ → Reader (Did (List ℕ)))

@@ -24,7 +24,8 @@ use Rattle.includes.specs.declared.read.Reading.{Reading}
 use Rattle.includes.specs.declared.read.Reading.the-variants.{Copied, Include, Source as Shown}
 use Rattle.includes.specs.declared.read.Read.{Read}
 use Rattle.buffers.specs.Emits.{Emits, Going, going-start, going-same, going-on, going-no, going-end, emits-put, emits-fail}
-use Rattle.includes.specs.Ahead.{part, KnowsAll}
+use Rattle.scan.specs.Sets.{part}
+use Rattle.includes.specs.Ahead.{KnowsAll}
 use Rattle.includes.specs.Marks.{NextMark, stretch, plain}
 use Rattle.includes.specs.Read.{emitOf, Within, Reads}
 use Rattle.includes.specs.Files.{OpensFile, EndsLine, emits-line}

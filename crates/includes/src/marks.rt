@@ -5,7 +5,7 @@ ghost use mathlib.Core.List.{[]};
 ghost use Prim.Native.Nat.{_≤_};
 ghost use lib.ListN.{length, drop};
 ghost use Rattle.rules.specs.Includes.{commented};
-ghost use Rattle.includes.specs.Ahead.{part};
+ghost use Rattle.scan.specs.Sets.{part};
 ghost use Rattle.includes.specs.Marks.{markLength, NextMark, stretch, Line};
 
 // A mark's place and length; length 0 at the end of the text.

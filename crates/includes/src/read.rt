@@ -14,7 +14,8 @@ ghost use lib.ListN.{length, drop};
 ghost use Rattle.rules.specs.Reader.{bytes};
 ghost use Rattle.rules.specs.Includes.{includeMark, sourceMark, includeStep};
 ghost use Rattle.scan.specs.Sets.{notByte};
-ghost use Rattle.includes.specs.Ahead.{part, Knows, KnowsAll, Quotes};
+ghost use Rattle.scan.specs.Sets.{part};
+ghost use Rattle.includes.specs.Ahead.{Knows, KnowsAll, Quotes};
 ghost use Rattle.includes.specs.Marks.{markLength, stretch};
 ghost use Rattle.includes.specs.Read.{copiedRead, knownPair, Stands, Reads, Behinds, HasPath};
 

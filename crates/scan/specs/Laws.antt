@@ -124,7 +124,7 @@ module _ (m t : List ℕ) (at : ℕ) where
     matching-end h = record { says = s .same ∙ rw (drop-of-length-le m h) refl; there = λ e. omega (arith, s .inside, s .short) }
 
 -- a mark that stands at i, and one that does not
-mark-of : (m t : List ℕ) (r : Bool) → prefix m t ≡ r → mark m t ≡ elim r [ true ↦ (true, drop (length m) t) | false ↦ (false, t) ]
+pub mark-of : (m t : List ℕ) (r : Bool) → prefix m t ≡ r → mark m t ≡ elim r [ true ↦ (true, drop (length m) t) | false ↦ (false, t) ]
 unfolding mark
 mark-of m t r e = rw (e, mark) refl
 

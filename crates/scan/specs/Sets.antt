@@ -50,6 +50,10 @@ byteIs c x = eqb x c
 abbrev pub notByte : ℕ → ℕ → Bool
 notByte c x = not (eqb x c)
 
+-- The part of a text from a to b.
+abbrev pub part : List ℕ → ℕ → ℕ → List ℕ
+part t a b = take (b - a) (drop a t)
+
 -- The stretch of t from i by p goes to j.
 pub record Spans (p : ℕ → Bool) (t : List ℕ) (i j : ℕ) : Type 0 where
   pub on : i ≤ j

@@ -2,13 +2,14 @@
 use mathlib.Core.Path.{_≡_, refl, sym, ap, _∙_}
 use mathlib.Core.List.{List, [], _∷_, _++_}
 use mathlib.Core.Bool.{Bool, true, false, _&&_, true≢false}
+use Prim.Native.Char.{Char, code}
 use Prim.Native.Nat.{ℕ, zero, suc, _+_, _-_, _≤_, _<_}
 use native.Mathlib.Omega.{arith}
 use lib.ListN.{length, take, drop, getD, length-drop}
 use lib.Seq.{drop-cons, drop-drop, length-take-le, getD-take, getD-drop}
-use Rattle.rules.specs.Reader.{all, span}
+use Rattle.rules.specs.Reader.{all, but, span}
 use Rattle.rules.specs.Laws.Bool.{and-l, and-r, and-i}
-use Rattle.scan.specs.Sets.{Spans}
+use Rattle.scan.specs.Sets.{Spans, notByte}
 use Rattle.scan.specs.Paths.{drop-take}
 
 all-each : (p : ℕ → Bool) (l : List ℕ) (k : ℕ) → all p l ≡ true → k < length l → p (getD l k 0) ≡ true
@@ -78,3 +79,8 @@ span-stops p (y ∷ ys) x xs e = stops-at p y ys x xs (p y) refl e (span-stops p
 -- Where a stretch ends within the text, the byte there is none of it.
 pub spans-stop : {p : ℕ → Bool} {t : List ℕ} {i j : ℕ} → Spans p t i j → j < length t → p (getD t j 0) ≡ false
 spans-stop {p} {t} {i} {j} s h = span-stops p (drop i t) (getD t j 0) (drop (suc j) t) (s .rest ∙ drop-cons t j 0 h)
+
+-- The stretches that a search for a byte gives are those of the rules.
+pub spans-but : (c : Char) {t : List ℕ} {i j : ℕ} → Spans (notByte (code c)) t i j → Spans (but c) t i j
+unfolding but
+spans-but c s = s

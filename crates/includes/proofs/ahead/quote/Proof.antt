@@ -5,7 +5,8 @@ use Rattle.includes.proofs.ahead.quote.Reads as reads
 use Rattle.includes.proofs.ahead.quote.Lts as lts
 use Rattle.includes.proofs.ahead.next.Reads as next-reads
 use Rattle.scan.proofs.skip.Reads as skip-reads
-use Rattle.includes.specs.Ahead.{spans-but, quotes-found, quotes-none}
+use Rattle.includes.specs.Ahead.{quotes-found, quotes-none}
+use Rattle.scan.specs.Stretches.{spans-but}
 
 next-requires : tie.Need-next-requires
 next-requires c κs = search needs

@@ -6,7 +6,7 @@ use Rattle.includes.proofs.read.behind_source.Lts as lts
 use Rattle.includes.proofs.ahead.next.Reads as next-reads
 use Rattle.scan.proofs.find.Reads as find-reads
 use Rattle.scan.proofs.skip.Reads as skip-reads
-use Rattle.includes.specs.Ahead.{spans-but}
+use Rattle.scan.specs.Stretches.{spans-but}
 use Rattle.includes.specs.Read.{behind-line, behind-paren}
 
 find-requires : tie.Need-find-requires

@@ -1,0 +1,4 @@
+pub mod Called
+pub mod Values
+pub mod Args
+pub mod Content
