@@ -18,7 +18,8 @@ all-each p [] k h z = absurd (omega arith)
 all-each p (x ∷ xs) zero h z = and-l (p x) (all p xs) h
 all-each p (x ∷ xs) (suc k) h z = all-each p xs k (and-r (p x) (all p xs) h) (omega arith)
 
-span-took : (p : ℕ → Bool) (t : List ℕ) → all p (span p t .0) ≡ true
+-- Every byte that a stretch takes has p.
+pub span-took : (p : ℕ → Bool) (t : List ℕ) → all p (span p t .0) ≡ true
 unfolding span all
 span-took p [] = refl
 span-took p (x ∷ xs) = at (p x) refl (span-took p xs)

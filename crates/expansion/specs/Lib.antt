@@ -1,0 +1,2 @@
+pub mod Let
+pub mod Reference

@@ -1,0 +1,2 @@
+// The expansion (document 01, section 5).
+pub mod steps;
