@@ -135,9 +135,12 @@ pub fn resolve_includes(bundle: &[u8], folder: &[u8], text: &[u8], out: &mut [u8
     if !r.ok {
         return no_text(out, r.number);
     }
-    let n = r.next;
-    buffers::clear_from(out, n);
-    Text { number: 0, len: n }
+    let end = r.next;
+    buffers::clear_from(out, end);
+    Text {
+        number: 0,
+        len: end,
+    }
 }
 
 // What a path is in a bundle. Kind: 0 absent, 1 folder, 2 file; a file's content stands at `start` in the bundle.

@@ -111,10 +111,10 @@ fn open_source(b: &[u8], folder: &[u8], path: &[u8]) -> Opened
     ensures { λ r. ⌜ Opens (now (b .entry)) (opened (view (entriesOf (now (b .entry)))) (join (projectRoot (view (entriesOf (now (b .entry)))) (now (folder .entry))) (now (path .entry)))) r ⌝ }
 {
     let root = bundle::project_root(b, folder);
-    let p = join(&folder[..root], path);
-    let bytes = p.bytes;
-    let n = p.len;
-    if !p.ok {
+    let joined = join(&folder[..root], path);
+    let bytes = joined.bytes;
+    let n = joined.len;
+    if !joined.ok {
         return Opened::Refused(4);
     }
     bundle::open_text(b, &bytes[..n])
