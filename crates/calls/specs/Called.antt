@@ -9,9 +9,10 @@ use Rattle.calls.specs.declared.Outcome.{Outcome}
 use Rattle.calls.specs.declared.Outcome.the-variants.{HandedBack, Refused, Output}
 use Rattle.calls.specs.declared.Called.{Called}
 
--- c: what the rules read of a call in t; b, p: the buffer and the writer's place before it, o the buffer after it. Its text fills the buffer.
+-- c: what the rules read of a call in t; b, p: the buffer and the writer's place before it, o the buffer after it. Handed back, the
+-- buffer is as it was; an output fills it.
 unfoldable pub Says : Call × List ℕ → List ℕ → List ℕ → ℕ → List ℕ → Outcome → ℕ → Type 0
-Says c t b p o HandedBack j = c ≡ (handsBack, drop j t)
+Says c t b p o HandedBack j = (c ≡ (handsBack, drop j t)) × (o ≡ b)
 Says c t b p o (Refused k) j = c .0 ≡ refuses k
 Says c t b p o (Output w q) j = (v : List ℕ) × (c ≡ (outputs w v, drop j t)) × Fills (length b) b p v o q
 

@@ -203,7 +203,7 @@ module _ (w : List ℕ) (p : ℕ) (c : List ℕ) (q : ℕ) where
 module _ (look : List ℕ → List ℕ) {t : List ℕ} {at i : ℕ} (L : Spans blank t at i) {c : Bool} (s : Sees (byteIs 60) t i c) {b : List ℕ} {p : ℕ} where
   pub link-back : c ≡ true → Calls (link look (drop at t)) t at b p b (record { outcome = HandedBack; at = i })
   unfolding link Says _>>=_ _>>_ ifR ret
-  link-back e = record { on = L .on; inside = L .inside; size = refl; says = rw (L .rest, seen (sees-char "<" s) e .says) refl }
+  link-back e = record { on = L .on; inside = L .inside; size = refl; says = (rw (L .rest, seen (sees-char "<" s) e .says) refl, refl) }
 
   pub link-put : c ≡ false → p ≤ length b → {o : List ℕ} {k q : ℕ} → Wrote (length b) (expression look (take (length t - i) (drop i t))) (take (length t - i) (drop i t)) b p o k q →
       {e : Ending} → Closes linkEnd t (i + k) e → {d : List ℕ} {r : ℕ} → Linked (part t (e .from) (e .to)) p o q d r → Calls (link look (drop at t)) t at b p d (record { outcome = Output (e .whole) r; at = e .at })

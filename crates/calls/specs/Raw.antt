@@ -215,7 +215,7 @@ content-inside b t m e = rw e at (m .within)
 module _ (v : View) (look : List ℕ → List ℕ) {b t : List ℕ} {at i : ℕ} (l : Spans blank t at i) {c : Read} (m : Contents (content v look (drop i t)) look b t i c) {o : List ℕ} {p : ℕ} where
   pub raw-back : c .told ≡ HandedBack → Calls (raw v look (drop at t)) t at o p o (record { outcome = Back; at = c .at })
   unfolding raw rawArguments toldContent Says _>>=_ _>>_ ret
-  raw-back e = record { on = omega (arith, l .on, m .on); inside = m .inside; size = refl; says = rw (l .rest, m .says, e) refl }
+  raw-back e = record { on = omega (arith, l .on, m .on); inside = m .inside; size = refl; says = (rw (l .rest, m .says, e) refl, refl) }
 
   pub raw-refused : {k : ℕ} → c .told ≡ Bad k → Calls (raw v look (drop at t)) t at o p o (record { outcome = No k; at = c .at })
   unfolding raw rawArguments toldContent Says _>>=_ _>>_ ret

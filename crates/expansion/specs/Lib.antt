@@ -1,2 +1,3 @@
 pub mod Let
 pub mod Reference
+pub mod Call

@@ -1,2 +1,3 @@
 // The expansion (document 01, section 5).
+pub mod call_steps;
 pub mod steps;

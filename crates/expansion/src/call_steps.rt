@@ -1,0 +1,110 @@
+// The steps `#raw` and `#link`, each from its mark.
+use calls::Called;
+use calls::Outcome;
+use scan::Set;
+ghost use mathlib.Core.Path.{_≡_};
+ghost use mathlib.Core.Bool.{true};
+ghost use Prim.Native.Nat.{_+_, _≤_};
+ghost use lib.ListN.{length, drop};
+ghost use Rattle.rules.specs.Reader.{bytes};
+ghost use Rattle.rules.specs.Bundle.{bundleOf};
+ghost use Rattle.rules.specs.Files.{view};
+ghost use Rattle.rules.specs.Sheet.{resolveString};
+ghost use Rattle.rules.specs.Expansion.{callStep, raw, link};
+ghost use Rattle.rules.specs.Laws.Bool.{isSome};
+ghost use Rattle.scan.specs.Sets.{part, Starts};
+ghost use Rattle.bundle.specs.Find.{entriesOf};
+ghost use Rattle.sheet.specs.Find.{IsSheet};
+ghost use Rattle.expansion.specs.Call.{Shows, Ends, StepsBy};
+
+// What a call's step came to: has all been written; if not, the refusal's number; is it whole (section 6); where reading goes on, and the writer.
+pub struct Came {
+    pub ok: bool,
+    pub number: u8,
+    pub whole: bool,
+    pub at: usize,
+    pub next: usize,
+}
+
+// Outputs the mark and the blanks behind it, from `at` to `end`, and goes on there.
+fn show(text: &[u8], at: usize, end: usize, whole: bool, out: &mut [u8], p: usize, full: u8) -> Came
+    requires { ⌜ (at ≤ end) × (end ≤ length (now text)) × (p ≤ length (now out)) ⌝ }
+    ensures { λ r. ⌜ Shows full (part (now (text .entry)) at end) end whole (now (out .entry)) p (now (out .exit)) r ⌝ }
+{
+    let room = out.len();
+    let q = buffers::put(out, room, p, &text[at..end]);
+    Came {
+        ok: q <= room,
+        number: full,
+        whole: whole,
+        at: end,
+        next: q,
+    }
+}
+
+// What a call comes to; handed back, the mark and the blanks behind it are output, and reading goes on from the `(`.
+fn end_call(
+    c: Called,
+    text: &[u8],
+    at: usize,
+    end: usize,
+    out: &mut [u8],
+    p: usize,
+    full: u8,
+) -> Came
+    requires { ⌜ (at ≤ end) × (end ≤ length (now text)) × (p ≤ length (now out)) ⌝ }
+    ensures { λ r. ⌜ Ends full c (now (text .entry)) at end (now (out .entry)) p (now (out .exit)) r ⌝ }
+{
+    let outcome = c.outcome;
+    match outcome {
+        Outcome::HandedBack => show(text, at, end, c.at < text.len(), out, p, full),
+        Outcome::Refused { number } => Came {
+            ok: false,
+            number: number,
+            whole: true,
+            at: c.at,
+            next: p,
+        },
+        Outcome::Output { whole, next } => Came {
+            ok: next <= out.len(),
+            number: full,
+            whole: whole,
+            at: c.at,
+            next: next,
+        },
+    }
+}
+
+// `#raw`, whose mark stands at a place.
+pub fn raw_step(
+    b: &[u8],
+    text: &[u8],
+    at: usize,
+    sheet: &[u8],
+    out: &mut [u8],
+    p: usize,
+    full: u8,
+) -> Came
+    requires { ⌜ (isSome (bundleOf (now b)) ≡ true) × Starts (bytes "#raw") (now text) at true × (p ≤ length (now out)) × IsSheet (now sheet) ⌝ }
+    ensures { λ r. ⌜ StepsBy full (λ s. callStep (bytes "#raw") (raw (view (entriesOf (now (b .entry)))) (resolveString s)) s) (now (text .entry)) (at + 4) (now (sheet .entry)) (now (out .entry)) p (now (out .exit)) r ⌝ }
+{
+    let i = scan::span(text, at + 4, Set::LineBlank);
+    if !scan::at(text, i, b'(') {
+        return show(text, at, i, true, out, p, full);
+    }
+    let c = calls::raw::raw(b, text, i + 1, sheet, out, p);
+    end_call(c, text, at, i, out, p, full)
+}
+
+// `#link`, whose mark stands at a place.
+pub fn link_step(text: &[u8], at: usize, sheet: &[u8], out: &mut [u8], p: usize, full: u8) -> Came
+    requires { ⌜ Starts (bytes "#link") (now text) at true × (p ≤ length (now out)) × IsSheet (now sheet) ⌝ }
+    ensures { λ r. ⌜ StepsBy full (λ s. callStep (bytes "#link") (link (resolveString s)) s) (now (text .entry)) (at + 5) (now (sheet .entry)) (now (out .entry)) p (now (out .exit)) r ⌝ }
+{
+    let i = scan::span(text, at + 5, Set::LineBlank);
+    if !scan::at(text, i, b'(') {
+        return show(text, at, i, true, out, p, full);
+    }
+    let c = calls::link::link(text, i + 1, sheet, out, p);
+    end_call(c, text, at, i, out, p, full)
+}
