@@ -56,7 +56,7 @@ pub record Holds (s : Records) (c : List ℕ) (n limit : ℕ) : Type 0 where
   pub fits : n ≤ limit
   pub good : goodRecords s word 6 ≡ true
 
-pub holds-sheet : {s : Records} {c : List ℕ} {n limit : ℕ} → Holds s c n limit → IsSheet (take n c)
+abbrev pub holds-sheet : {s : Records} {c : List ℕ} {n limit : ℕ} → Holds s c n limit → IsSheet (take n c)
 holds-sheet {s} h = record { r = s; bytes = h .bytes; good = h .good }
 
 -- The step leaves the records `to`: c holds them, or they are too long.

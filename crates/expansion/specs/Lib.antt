@@ -1,3 +1,4 @@
 pub mod Let
 pub mod Reference
 pub mod Call
+pub mod Step

@@ -1,3 +1,4 @@
 // The expansion (document 01, section 5).
 pub mod call_steps;
+pub mod step;
 pub mod steps;

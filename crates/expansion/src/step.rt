@@ -1,0 +1,109 @@
+// One step of the expansion at a `#`, by the first of the marks that stands there.
+use crate::call_steps::Came;
+use crate::call_steps::link_step;
+use crate::call_steps::raw_step;
+use crate::steps::import_step;
+use crate::steps::let_step;
+use crate::steps::reference_step;
+ghost use mathlib.Core.Path.{_≡_};
+ghost use mathlib.Core.Bool.{true};
+ghost use Prim.Native.Nat.{_≤_};
+ghost use lib.ListN.{length};
+ghost use Rattle.rules.specs.Reader.{all, bytes};
+ghost use Rattle.rules.specs.Bytes.{ascii};
+ghost use Rattle.rules.specs.Bundle.{bundleOf};
+ghost use Rattle.rules.specs.Files.{view};
+ghost use Rattle.rules.specs.Laws.Bool.{isSome};
+ghost use Rattle.scan.specs.Sets.{Starts};
+ghost use Rattle.bundle.specs.Find.{entriesOf};
+ghost use Rattle.sheet.specs.Find.{IsSheet};
+ghost use Rattle.expansion.specs.Step.{Unbound, WritesAt, Keeps, Steps};
+
+// The step at a `#` that begins neither `#import` nor `#let`: it keeps the sheet.
+fn writing_step(
+    b: &[u8],
+    text: &[u8],
+    at: usize,
+    sheet: &[u8],
+    out: &mut [u8],
+    p: usize,
+    full: u8,
+) -> Came
+    requires { ⌜ (isSome (bundleOf (now b)) ≡ true) × Unbound (now text) at × (p ≤ length (now out)) × IsSheet (now sheet) ⌝ }
+    ensures { λ r. ⌜ WritesAt full (view (entriesOf (now (b .entry)))) (now (text .entry)) at (now (sheet .entry)) (now (out .entry)) p (now (out .exit)) r ⌝ }
+{
+    if scan::starts_with(text, at, b"#raw") {
+        return raw_step(b, text, at, sheet, out, p, full);
+    }
+    if scan::starts_with(text, at, b"#link") {
+        return link_step(text, at, sheet, out, p, full);
+    }
+    let room = out.len();
+    let r = reference_step(text, at + 1, sheet, out, room, p, full);
+    Came {
+        ok: r.ok,
+        number: r.number,
+        whole: true,
+        at: r.at,
+        next: r.next,
+    }
+}
+
+// What a step came to: has all been written and the sheet stayed within its limit; if not, the refusal's number; is it whole
+// (section 6); where reading goes on, the writer, and the sheet's length.
+pub struct Stepped {
+    pub ok: bool,
+    pub number: u8,
+    pub whole: bool,
+    pub at: usize,
+    pub next: usize,
+    pub len: usize,
+}
+
+// The step at a `#`, with the sheet in the first n bytes of `left`.
+pub fn step(
+    b: &[u8],
+    text: &[u8],
+    at: usize,
+    out: &mut [u8],
+    p: usize,
+    left: &mut [u8],
+    n: usize,
+    limit: usize,
+    full: u8,
+) -> Stepped
+    requires { ⌜ (isSome (bundleOf (now b)) ≡ true) × (all ascii (now text) ≡ true) × Starts (bytes "#") (now text) at true × (p ≤ length (now out)) × Keeps (now left) n limit ⌝ }
+    ensures { λ r. ⌜ Steps limit full (view (entriesOf (now (b .entry)))) (now (text .entry)) at (now (out .entry)) p (now (out .exit)) (now (left .entry)) n (now (left .exit)) r ⌝ }
+{
+    if scan::starts_with(text, at, b"#import") {
+        let next = import_step(text, at + 7);
+        return Stepped {
+            ok: true,
+            number: 0,
+            whole: true,
+            at: next,
+            next: p,
+            len: n,
+        };
+    }
+    if scan::starts_with(text, at, b"#let") {
+        let r = let_step(text, at + 4, left, n, limit);
+        return Stepped {
+            ok: r.ok,
+            number: 9,
+            whole: true,
+            at: r.at,
+            next: p,
+            len: r.len,
+        };
+    }
+    let r = writing_step(b, text, at, &left[..n], out, p, full);
+    Stepped {
+        ok: r.ok,
+        number: r.number,
+        whole: r.whole,
+        at: r.at,
+        next: r.next,
+        len: n,
+    }
+}
