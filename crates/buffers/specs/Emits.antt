@@ -208,6 +208,14 @@ emits-fills {full} {room} {b} {p} {v} {c} {q} h s = record {
 pub emits-put : {full room : ℕ} {b : List ℕ} {p : ℕ} {v c : List ℕ} {q : ℕ} → p ≤ room → Put room b p v c q → Emits full room (put v ok) b p c (leb q room) full q
 emits-put h s = emits-fills h (put-fills (omega arith) s)
 
+-- Nothing.
+pub emits-ok : (full room : ℕ) (b : List ℕ) (p k : ℕ) → p ≤ room → Emits full room ok b p b true k p
+emits-ok full room b p k h = record {
+  size = refl;
+  goes = λ z. record { text = []; fills = fill-none b p; fits = h; says = (unfold write in refl) };
+  stops = λ z. absurd (true≢false z);
+}
+
 -- A refusal.
 pub emits-fail : (full room : ℕ) (b : List ℕ) (p k q : ℕ) → Emits full room (fail k) b p b false k q
 emits-fail full room b p k q = record { size = refl; goes = λ z. absurd (true≢false (sym z)); stops = λ z. (unfold write in refl) }

@@ -2,3 +2,4 @@ pub mod Let
 pub mod Reference
 pub mod Call
 pub mod Step
+pub mod Run

@@ -6,6 +6,7 @@ use Prim.Native.Nat.{ℕ, _+_, _≤_, _<_}
 use native.Mathlib.Omega.{arith}
 use lib.Dec.{leb}
 use lib.ListN.{length, take, drop}
+use lib.Seq.{length-take-le}
 use borrow.Author.Tests.{le-leb, lt-leb}
 use Rattle.rules.specs.Reader.{bytes, mark, ifR, _>>=_}
 use Rattle.rules.specs.Run.{Emit, ok, put, fail, Did, write}
@@ -14,7 +15,7 @@ use Rattle.rules.specs.Sheet.{Records, sheetLength, resolveString}
 use Rattle.rules.specs.Expansion.{binds, writes, importStep, letStep, referenceStep, callStep, raw, link, expansionStep}
 use Rattle.scan.specs.Sets.{Starts}
 use Rattle.scan.specs.Laws.{mark-yes, mark-no}
-use Rattle.buffers.specs.Emits.{Emits, fill-none, emits-fail, guard, guard-yes, guard-no}
+use Rattle.buffers.specs.Emits.{Emits, emits-ok, guard, guard-yes, guard-no}
 use Rattle.sheet.specs.Find.{IsSheet}
 use Rattle.expansion.specs.declared.call_steps.Came.{Came}
 use Rattle.expansion.specs.declared.steps.Let.{Let}
@@ -43,6 +44,10 @@ pub record Keeps (l : List ℕ) (n limit : ℕ) : Type 0 where
   pub room : limit ≤ length l
   pub most : limit ≤ 65535
   pub sheet : IsSheet (take n l)
+
+pub keeps-holds : {l : List ℕ} {n limit : ℕ} (k : Keeps l n limit) → Holds (k .sheet .r) l n limit
+unfolding sheetLength
+keeps-holds {l} {n} k = record { bytes = k .sheet .bytes; long = sym (ap length (sym (k .sheet .bytes)) ∙ length-take-le n l (omega (arith, k .fits, k .room))); fits = k .fits; good = k .sheet .good }
 
 -- The step d: what it writes, or 9; and, if all is written, where reading goes on, whether it is whole, and the records that m holds.
 pub record Took (limit full : ℕ) (d : Did Records × List ℕ) (t b : List ℕ) (p : ℕ) (c m : List ℕ) (r : Stepped) : Type 0 where
@@ -124,16 +129,8 @@ module _ {full : ℕ} {v : View} {t : List ℕ} {at : ℕ} (u : Unbound t at) {a
     }
 
 -- THE STEP, with its limit. What fits passes.
-passes : {s : Records} {l : List ℕ} {n limit : ℕ} (d : Did Records) → d .state ≡ s → Holds s l n limit → guard sheetLength limit d ≡ d .emit
+pub passes : {s : Records} {l : List ℕ} {n limit : ℕ} (d : Did Records) → d .state ≡ s → Holds s l n limit → guard sheetLength limit d ≡ d .emit
 passes {s} {l} {n} {limit} d e h = guard-yes sheetLength limit d (le-leb _ limit (omega (arith, ap sheetLength e, h .long, h .fits)))
-
--- Nothing is written.
-emits-nothing : (full : ℕ) (b : List ℕ) (p k : ℕ) → p ≤ length b → Emits full (length b) ok b p b true k p
-emits-nothing full b p k h = record {
-  size = refl;
-  goes = λ z. record { text = []; fills = fill-none b p; fits = h; says = (unfold write in refl) };
-  stops = λ z. absurd (true≢false z);
-}
 
 module _ {limit full : ℕ} {v : View} {t : List ℕ} {at : ℕ} {i : Bool} (I : Starts (bytes "#import") t at i) {b : List ℕ} {p : ℕ} (room : p ≤ length b) {l : List ℕ} {n : ℕ} where
   pub steps-import : {r : ℕ} → i ≡ true → Imports t (at + 7) r → Steps limit full v t at b p b l n l (record { ok = true; number = 0; whole = true; at = r; next = p; len = n })
@@ -144,7 +141,7 @@ module _ {limit full : ℕ} {v : View} {t : List ℕ} {at : ℕ} {i : Bool} (I :
     on = omega (arith, w .on);
     inside = w .inside;
     does = λ s h. subst (λ x. Took limit full x t b p b l (record { ok = true; number = 0; whole = true; at = r; next = p; len = n })) (sym (choose-import v s I e ∙ w .does s)) (record {
-      emits = subst (λ x. Emits full (length b) x b p b true 0 p) (sym (passes (binds s) refl h)) (emits-nothing full b p 0 room);
+      emits = subst (λ x. Emits full (length b) x b p b true 0 p) (sym (passes (binds s) refl h)) (emits-ok full (length b) b p 0 room);
       rest = λ z. refl;
       wholes = λ z. refl;
       holds = λ z. h;
@@ -164,7 +161,7 @@ module _ {limit full : ℕ} {v : View} {t : List ℕ} {at : ℕ} {i : Bool} (I :
           subst (λ x. Took limit full x t b p b m (record { ok = r .ok; number = 9; whole = true; at = r .at; next = p; len = r .len })) (sym (choose-let v s I ni L e ∙ y .does)) (record {
             emits = record {
               size = refl;
-              goes = λ z. subst (λ x. Emits full (length b) x b p b true 9 p) (sym (passes (binds (y .to)) refl (y .goes z))) (emits-nothing full b p 9 room) .goes refl;
+              goes = λ z. subst (λ x. Emits full (length b) x b p b true 9 p) (sym (passes (binds (y .to)) refl (y .goes z))) (emits-ok full (length b) b p 9 room) .goes refl;
               stops = λ z. ap (write full _) (guard-no sheetLength limit (binds (y .to)) (lt-leb _ limit (y .stops z))) ∙ (unfold write in refl);
             };
             rest = λ z. refl;
