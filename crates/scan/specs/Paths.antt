@@ -424,7 +424,7 @@ unfolding empty
 is-empty [] h = refl
 is-empty (x ∷ xs) h = absurd (true≢false (sym h))
 
-trimEnd-cons : (x : ℕ) (xs : List ℕ) (c : Bool) → (blank x && empty (trimEnd xs)) ≡ c → trimEnd (x ∷ xs) ≡ elim c [ true ↦ [] | false ↦ x ∷ trimEnd xs ]
+pub trimEnd-cons : (x : ℕ) (xs : List ℕ) (c : Bool) → (blank x && empty (trimEnd xs)) ≡ c → trimEnd (x ∷ xs) ≡ elim c [ true ↦ [] | false ↦ x ∷ trimEnd xs ]
 unfolding trimEnd
 trimEnd-cons x xs c q = rw (q, trimEnd)
 

@@ -15,17 +15,17 @@ use Rattle.rules.specs.Laws.Bool.{and-l, and-r, and-i, and-false-r, or-i
 
 -- THE ORDER OF NAMES.
 -- Of two names that are not empty: by their first bytes, or, where these are equal, by the rest.
-less-elim : {P : Type 0} (x y : ℕ) (xs ys : List ℕ) → less (x ∷ xs) (y ∷ ys) ≡ true → (x < y → P) → (x ≡ y → less xs ys ≡ true → P) → P
+pub less-elim : {P : Type 0} (x y : ℕ) (xs ys : List ℕ) → less (x ∷ xs) (y ∷ ys) ≡ true → (x < y → P) → (x ≡ y → less xs ys ≡ true → P) → P
 unfolding less
 less-elim x y xs ys h f g =
     or-elim (ltb x y) (eqb x y && less xs ys) h (λ p. f (true-ltb x y p))
     (λ p. g (true-eqb x y (and-l (eqb x y) (less xs ys) p)) (and-r (eqb x y) (less xs ys) p))
 
-less-head : (x y : ℕ) (xs ys : List ℕ) → x < y → less (x ∷ xs) (y ∷ ys) ≡ true
+pub less-head : (x y : ℕ) (xs ys : List ℕ) → x < y → less (x ∷ xs) (y ∷ ys) ≡ true
 unfolding less
 less-head x y xs ys h = or-i-l (ltb x y) (eqb x y && less xs ys) (ltb-true x y h)
 
-less-tail : (x y : ℕ) (xs ys : List ℕ) → x ≡ y → less xs ys ≡ true → less (x ∷ xs) (y ∷ ys) ≡ true
+pub less-tail : (x y : ℕ) (xs ys : List ℕ) → x ≡ y → less xs ys ≡ true → less (x ∷ xs) (y ∷ ys) ≡ true
 unfolding less
 less-tail x y xs ys e h = or-i-r (ltb x y) (eqb x y && less xs ys) (and-i (eqb x y) (less xs ys) (eqb-true x y e) h)
 
@@ -260,7 +260,7 @@ get-set-other end n m v f = get-later n m v end f
 get-set-other (rec k w r) n m v f = get-set-other-at k n m v w r (less n k) (less k n) refl refl f (get-set-other r n m v f)
 
 -- WHAT IS WRITTEN IS READ BACK.
-word16-read : (n : ℕ) (b : List ℕ) → word16 (word16Bytes n ++ b) ≡ some (n, b)
+pub word16-read : (n : ℕ) (b : List ℕ) → word16 (word16Bytes n ++ b) ≡ some (n, b)
 unfolding word16 word16Bytes byte pure bind _>>=_
 word16-read n b = let e : n % 256 + 256 * (n / 256) ≡ n = omega arith in ap (λ z. some (z, b)) e
 
@@ -269,12 +269,12 @@ unfolding take byte pure bind _>>=_
 take-read [] b = refl
 take-read (x ∷ xs) b = rw (take-read xs b)
 
-field-read : (x : ℕ) (xs b : List ℕ) → field word16 (fieldBytes (x ∷ xs) ++ b) ≡ some (x ∷ xs, b)
+pub field-read : (x : ℕ) (xs b : List ℕ) → field word16 (fieldBytes (x ∷ xs) ++ b) ≡ some (x ∷ xs, b)
 unfolding field fieldBytes require empty pure bind _>>=_ _>>_
 field-read x xs b = rw (append-assoc, word16-read) (rw (take-read (x ∷ xs) b))
 
 -- The map byte says whether there is a name, and of which kind the value is.
-map-byte : (n : List ℕ) (v : Value) → (bit 0 (fieldMask 1 n + valueMask v) ≡ eqb (fieldMask 1 n) 1) × ((fieldMask 1 n + valueMask v) / 2 ≡ valueMask v / 2)
+pub map-byte : (n : List ℕ) (v : Value) → (bit 0 (fieldMask 1 n + valueMask v) ≡ eqb (fieldMask 1 n) 1) × ((fieldMask 1 n + valueMask v) / 2 ≡ valueMask v / 2)
 unfolding bit fieldMask valueMask
 map-byte [] (text []) = (refl, refl)
 map-byte [] (text (x ∷ xs)) = (refl, refl)
@@ -285,7 +285,7 @@ map-byte (y ∷ ys) (text (x ∷ xs)) = (refl, refl)
 map-byte (y ∷ ys) nothing = (refl, refl)
 map-byte (y ∷ ys) (dictionary r) = (refl, refl)
 
-name-read : (n b : List ℕ) → fieldIf (eqb (fieldMask 1 n) 1) word16 (fieldBytes n ++ b) ≡ some (n, b)
+pub name-read : (n b : List ℕ) → fieldIf (eqb (fieldMask 1 n) 1) word16 (fieldBytes n ++ b) ≡ some (n, b)
 unfolding fieldIf fieldMask fieldBytes pure
 name-read [] b = refl
 name-read (x ∷ xs) b = field-read x xs b
@@ -335,7 +335,7 @@ all-read (rec n v r) p l (suc k) c h =
     let g = good-parts n v r p l h in
     all-step (levels l) n v r k (value-read v l (encode r) (g .value)) (all-read r p l k (omega arith) (g .later))
 
-count-le : (r : Records) → count r ≤ length (encode r)
+pub count-le : (r : Records) → count r ≤ length (encode r)
 unfolding count encode
 count-le end = omega arith
 count-le (rec n v r) = simp length-append (omega (arith, count-le r))
