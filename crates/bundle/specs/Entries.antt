@@ -1,7 +1,7 @@
 -- One entry of a bundle: what reading its fields promises.
 use mathlib.Core.Path.{_≡_, refl, sym, ap, _∙_}
 use mathlib.Core.List.{List, [], _∷_, _++_}
-use mathlib.Core.Bool.{Bool, true, false, not, _&&_, _||_, true≢false}
+use mathlib.Core.Bool.{Bool, true, false, not, _&&_, _||_, true≢false, and-false}
 use mathlib.Core.Option.{Option, none, some}
 use Prim.Native.Nat.{ℕ, zero, suc, _+_, _-_, _*_, _/_, _%_, _^_, _≤_, _<_}
 use native.Mathlib.Omega.{arith}
@@ -148,10 +148,6 @@ module _ (b : List ℕ) (i : ℕ) where
   unfolding fieldIf
   field-short e q k = record { reads = rw (e, q) (k .reads); inside = k .inside }
 
-and-no : (a : Bool) → (a && false) ≡ false
-and-no true = refl
-and-no false = refl
-
 -- A bit of a map byte is a mask's.
 pub mask-bit : (k m : ℕ) → not (eqb (bitAnd m (2 ^ (1 + k) - 2 ^ k)) 0) ≡ bit k m
 unfolding bit
@@ -289,7 +285,7 @@ module _ (b : List ℕ) (i : ℕ) where
         big z = rw (le-ltb (getD b i 0) 8 (leb-true 8 (getD b i 0) z))
 
         unnamed : not s ≡ true → (ltb (getD b i 0) 8 && bit 1 (getD b i 0)) ≡ false
-        unnamed z = rw (sym e ∙ not-true s z) (and-no (ltb (getD b i 0) 8))
+        unnamed z = rw (sym e ∙ not-true s z) (and-false (ltb (getD b i 0) 8))
 
     pub entry-fields : {s : Bool} → s ≡ bit 1 (getD b i 0) → {h : Head} → (leb 8 (getD b i 0) || not s) ≡ false → HeadAt b (entryFields (length b) (getD b i 0)) (i + 1) h → HeadAt b (entry (length b)) i h
     unfolding _>>_ bind require pure

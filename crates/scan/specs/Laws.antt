@@ -1,7 +1,7 @@
 -- Scanning at a place of a text.
 use mathlib.Core.Path.{_≡_, refl, sym, ap, _∙_}
 use mathlib.Core.List.{List, [], _∷_, _++_, append-assoc, append-nil}
-use mathlib.Core.Bool.{Bool, true, false, not, true≢false, _&&_}
+use mathlib.Core.Bool.{Bool, true, false, not, true≢false, false≢true, _&&_}
 use Prim.Native.Char.{Char, code}
 use Prim.Native.Nat.{ℕ, zero, suc, _+_, _-_, _≤_, _<_}
 use native.Mathlib.Numerals.{add-one}
@@ -11,8 +11,8 @@ use native.Mathlib.Decide.{decLe}
 use lib.Dec.{ltb, eqb}
 use lib.ListN.{length, take, drop, getD, drop-of-length-le, length-append, length-drop}
 use lib.Seq.{drop-cons, drop-drop, take-add, take-append-seam}
-use borrow.Author.Tests.{lt-ltb, le-ltb, eq-eqb, ne-eqb, eqb-true, eqb-false}
-use Rattle.rules.specs.Reader.{Reader, the, all, empty, span, sees, skip, prefix, same, mark}
+use borrow.Author.Tests.{lt-ltb, le-ltb, eq-eqb, ne-eqb, eqb-true, eqb-false, not-true as negated-true, not-false as negated-false}
+use Rattle.rules.specs.Reader.{Reader, the, but, all, empty, span, sees, skip, prefix, same, mark}
 use Rattle.rules.specs.Laws.Bool.{and-l, and-r, and-i, not-true}
 use Rattle.scan.specs.Sets.{byteIs, part, Spans, Sees, Starts, Stands, Skips}
 
@@ -40,6 +40,15 @@ sees-the c s e = rw e at s
 -- What is seen is what the byte there is.
 pub seen-byte : {p : ℕ → Bool} {t : List ℕ} {i : ℕ} {r v : Bool} → Sees p t i r → r ≡ v → i < length t → p (getD t i 0) ≡ v
 seen-byte {p} {t} {i} s e h = ap (λ z. z .0) (sym (sees-at p t i h) ∙ s .says) ∙ e
+
+-- A byte that is another one than c is not c; any other byte is.
+pub but-yes : (c : Char) (x : ℕ) → but c x ≡ true → the c x ≡ false
+unfolding but the
+but-yes c x h = negated-true (eqb x (code c)) h
+
+pub but-no : (c : Char) (x : ℕ) → but c x ≡ false → the c x ≡ true
+unfolding but the
+but-no c x h = negated-false (eqb x (code c)) h
 
 -- The END of a text: is anything left, and has a text any byte.
 pub not-end : (t : List ℕ) (i : ℕ) → not (empty (drop i t)) ≡ ltb i (length t)
@@ -74,7 +83,7 @@ pub record Spanning (p : ℕ → Bool) (t : List ℕ) (at i : ℕ) : Type 0 wher
   pub rest : span p (drop at t) .1 ≡ span p (drop i t) .1
 
 -- what stands from `at` to k, cut at i
-cut-at : (t : List ℕ) (at i k : ℕ) → at ≤ i → i ≤ k → take (k - at) (drop at t) ≡ take (i - at) (drop at t) ++ take (k - i) (drop i t)
+pub cut-at : (t : List ℕ) (at i k : ℕ) → at ≤ i → i ≤ k → take (k - at) (drop at t) ≡ take (i - at) (drop at t) ++ take (k - i) (drop i t)
 cut-at t at i k h g =
     let a : k - at ≡ (i - at) + (k - i) = omega arith in
     let b : at + (i - at) ≡ i = omega arith in
@@ -130,17 +139,14 @@ module _ (m t : List ℕ) (at : ℕ) where
   pub matching-start : at ≤ length t → Matching m t at 0
   matching-start h = record { short = omega arith; inside = omega arith; same = rw add-zero refl }
 
-  not-there : {P : Type 0} → false ≡ true → P
-  not-there e = absurd (true≢false (sym e))
-
   module _ (i : ℕ) (s : Matching m t at i) where
     pub matching-short : i < length m → length t ≤ at + i → Starts m t at false
     unfolding prefix
-    matching-short h g = record { says = s .same ∙ rw (drop-cons m i 0, drop-of-length-le t g) refl; there = λ e. not-there e }
+    matching-short h g = record { says = s .same ∙ rw (drop-cons m i 0, drop-of-length-le t g) refl; there = λ e. absurd (false≢true e) }
 
     pub matching-no : i < length m → at + i < length t → (getD m i 0 ≡ getD t (at + i) 0 → ⊥) → Starts m t at false
     unfolding prefix
-    matching-no h g n = record { says = s .same ∙ rw (drop-cons m i 0, drop-cons t (at + i) 0, ne-eqb _ _ n) refl; there = λ e. not-there e }
+    matching-no h g n = record { says = s .same ∙ rw (drop-cons m i 0, drop-cons t (at + i) 0, ne-eqb _ _ n) refl; there = λ e. absurd (false≢true e) }
 
     pub matching-on : i < length m → at + i < length t → getD m i 0 ≡ getD t (at + i) 0 → Matching m t at (i + 1)
     unfolding prefix
