@@ -14,9 +14,10 @@ use Rattle.rules.specs.Bytes.{isPath, join, less}
 use Rattle.rules.specs.Layout.{Parser, bind, _>>=_, _>>_, pure, require, broken, remaining, word16, times}
 use Rattle.rules.specs.Bundle.{Entry, entry, goodPaths, pathsOf, bundleParser, bundleOf}
 use Rattle.rules.specs.Laws.Bool.{and-l, and-r, and-i, and-false-r, isSome}
+use Rattle.rules.specs.Laws.Layout.{word-at, word-end}
 use Rattle.scan.specs.Paths.{path-long, Joins}
 use Rattle.scan.specs.declared.paths.Joined.{Joined}
-use Rattle.bundle.specs.Entries.{entryOf, headAnswer, HeadAt, word-at, word-end}
+use Rattle.bundle.specs.Entries.{entryOf, headAnswer, HeadAt}
 use Rattle.bundle.specs.Order.{Well, Marks, Marked, Agree, keeps, well-start, well-on, marks-on, bad-path, bad-order, bad-clash, well-good, ordered-none}
 use Rattle.bundle.specs.declared.entries.Head.{Head}
 use Rattle.bundle.specs.declared.walk.Walk.{Walk}

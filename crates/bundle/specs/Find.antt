@@ -17,7 +17,7 @@ use Rattle.rules.specs.Bundle.{Entry, entry, above, ascending, goodPaths, paths
 use Rattle.rules.specs.Files.{File, absent, folder, file, entryAt, isFolderOf, fileOf, view}
 use Rattle.rules.specs.Laws.Bool.{and-l, and-r, and-i, true-leb, isSome}
 use Rattle.scan.specs.Sets.{Starts, Sees, byteIs}
-use Rattle.bundle.specs.Entries.{entryOf, headAnswer, HeadAt, word-at, word-end}
+use Rattle.bundle.specs.Entries.{entryOf, headAnswer, HeadAt}
 use Rattle.bundle.specs.Check.{PathOf, closing, finish, bundle-rest, check-short}
 use Rattle.bundle.specs.declared.entries.Head.{Head}
 use Rattle.bundle.specs.declared.near.Relation.{Relation}

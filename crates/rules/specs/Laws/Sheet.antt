@@ -12,6 +12,7 @@ use Rattle.rules.specs.Bytes.{ascii, word, nameByte, less, split}
 use Rattle.rules.specs.Layout.{Parser, bind, _>>=_, _>>_, pure, broken, require, bit, byte, word16, take, field, fieldIf}
 use Rattle.rules.specs.Sheet.{Value, text, nothing, dictionary, Records, end, rec, word16Bytes, fieldBytes, fieldMask, count, valueMask, valueBytes, encode, sheetLength, value, oneRecord, someRecords, allRecords, levels, decode, before, goodValue, goodRecords, sheetOf, get, getFields, getPieces, resolve, textOf, resolveString, set}
 use Rattle.rules.specs.Laws.Bool.{and-l, and-r, and-i, and-false-r, or-i-l, or-i-r, or-elim, or-false-l, or-false-r, not-true, true-leb, leb-true, true-ltb, ltb-true, false-ltb, true-eqb, eqb-true, false-eqb}
+use Rattle.rules.specs.Laws.Texts.{all-right}
 
 -- THE ORDER OF NAMES.
 -- Of two names that are not empty: by their first bytes, or, where these are equal, by the rest.
@@ -350,11 +351,6 @@ decode-encode r p h = all-read r p 6 (length (encode r)) (count-le r) h
 unfoldable pub isByte : ℕ → Bool
 isByte x = ltb x 256
 
-all-rest : {A : Type 0} (p : A → Bool) (a b : List A) → all p (a ++ b) ≡ true → all p b ≡ true
-unfolding all
-all-rest p [] b h = h
-all-rest p (x ∷ xs) b h = all-rest p xs b (and-r (p x) (all p (xs ++ b)) h)
-
 word16-written : (b : List ℕ) (y : ℕ × List ℕ) → all isByte b ≡ true → word16 b ≡ some y → b ≡ word16Bytes (y .0) ++ y .1
 unfolding word16 word16Bytes byte pure bind _>>=_ all isByte
 word16-written [] y a h = cc
@@ -431,7 +427,7 @@ module _ (records : ℕ → Parser Records) (back : (n : ℕ) (b : List ℕ) (y 
       let i = bind-some (word16 b) (λ r. bind (records (r .0) (r .1)) (λ s. some (dictionary (s .0), s .1))) (rw (q₀, q₁, q₂, value) at h) in
       let j = bind-some (records (i .0 .0) (i .0 .1)) (λ s. some (dictionary (s .0), s .1)) (i .2) in
       let w = word16-written b (i .0) a (i .1) in
-      let r = back (i .0 .0) (i .0 .1) (j .0) (all-rest isByte (word16Bytes (i .0 .0)) (i .0 .1) (rw w at a)) (j .1) in
+      let r = back (i .0 .0) (i .0 .1) (j .0) (all-right isByte (word16Bytes (i .0 .0)) (i .0 .1) (rw w at a)) (j .1) in
       let e : (dictionary (j .0 .0), j .0 .1) ≡ y = cc (j .2) in
       let o = true-eqb k 2 q₂ in
       rw (← e) (dictionary-written (i .0 .0) b (i .0 .1) (j .0) w r, omega arith)
@@ -455,11 +451,11 @@ module _ (records : ℕ → Parser Records) (back : (n : ℕ) (b : List ℕ) (y 
       let j = bind-some (value records (m / 2) (i .0 .1)) (λ s. some ((i .0 .0, s .0), s .1)) (i .2) in
       let g = and-r (isByte m) (all isByte b) a in
       let n = name-written m b (i .0) g (i .1) in
-      let f = all-rest isByte (fieldBytes (i .0 .0)) (i .0 .1) (rw (n .0) at g) in
+      let f = all-right isByte (fieldBytes (i .0 .0)) (i .0 .1) (rw (n .0) at g) in
       let v = value-written (m / 2) (i .0 .1) (j .0) f (j .1) in
       let e : ((i .0 .0, j .0 .0), j .0 .1) ≡ y = cc (j .2) in
       let o : m ≡ fieldMask 1 (i .0 .0) + valueMask (j .0 .0) = omega arith in
-      rw (← e) (rw (← o, ← (v .0), ← (n .0)), all-rest isByte (valueBytes (j .0 .0)) (j .0 .1) (rw (v .0) at f))
+      rw (← e) (rw (← o, ← (v .0), ← (n .0)), all-right isByte (valueBytes (j .0 .0)) (j .0 .1) (rw (v .0) at f))
 
   records-written : (n : ℕ) (b : List ℕ) (y : Records × List ℕ) → all isByte b ≡ true → someRecords records n b ≡ some y → (count (y .0) ≡ n) × (b ≡ encode (y .0) ++ y .1)
   unfolding someRecords count encode pure _>>=_
