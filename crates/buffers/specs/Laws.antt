@@ -9,7 +9,7 @@ use native.Mathlib.Nat.{add-zero, sub-zero, suc-sub-suc}
 use native.Mathlib.Decide.{decLe}
 use lib.Dec.{leb, ltb, eqb, eqb·suc-zero}
 use lib.ListN.{length, take, drop, getD, set, length-append, length-set, length-drop, take-append-drop, drop-of-length-le, replicate}
-use lib.Seq.{sets, sets-eq, set-out, length-sets, length-take-le, drop-cons, take-suc, take-all, take-append-seam}
+use lib.Seq.{sets, sets-eq, set-out, set-comm, take-set-le, length-sets, length-take-le, drop-cons, take-suc, take-all, take-append-seam}
 use borrow.Author.Tests.{lt-ltb, le-ltb, le-leb, lt-leb}
 use Rattle.rules.specs.Reader.{all, span}
 use Rattle.rules.specs.Bytes.{blank}
@@ -104,6 +104,23 @@ sets-append b p [] w = rw add-zero refl
 sets-append b p (x ∷ xs) w =
     let e : p + suc (length xs) ≡ suc p + length xs = omega arith in
     rw e (sets-append (set b p x) (suc p) xs w)
+
+-- A store in front of others.
+pub set-sets : (b : List ℕ) (p x q : ℕ) (v : List ℕ) → p < q → set (sets b q v) p x ≡ sets (set b p x) q v
+set-sets b p x q [] h = refl
+set-sets b p x q (y ∷ ys) h = set-sets (set b q y) p x (suc q) ys (omega arith) ∙ ap (λ z. sets z (suc q) ys) (set-comm b q p y x (λ e. absurd (omega arith)))
+
+-- A text stored in front of one that was stored first.
+pub sets-before : (b : List ℕ) (p : ℕ) (v w : List ℕ) → sets (sets b (p + length v) w) p v ≡ sets b p (v ++ w)
+sets-before b p [] w = rw add-zero refl
+sets-before b p (x ∷ xs) w =
+    let e : p + suc (length xs) ≡ suc p + length xs = omega arith in
+    ap (λ z. sets z (suc p) xs) (set-sets b p x (p + suc (length xs)) w (omega arith) ∙ ap (λ j. sets (set b p x) j w) e) ∙ sets-before (set b p x) (suc p) xs w
+
+-- What lies before a store is as it was.
+pub take-sets : (b : List ℕ) (p : ℕ) (v : List ℕ) (k : ℕ) → k ≤ p → take k (sets b p v) ≡ take k b
+take-sets b p [] k h = refl
+take-sets b p (x ∷ xs) k h = take-sets (set b p x) (suc p) xs k (omega arith) ∙ take-set-le k b p x h
 
 -- One byte more of a text.
 pub sets-more : (b : List ℕ) (p : ℕ) (t : List ℕ) (i : ℕ) (c : List ℕ) → c ≡ sets b p (take i t) → i < length t → set c (p + i) (getD t i 0) ≡ sets b p (take (i + 1) t)

@@ -1,22 +1,19 @@
 -- Moving bytes inside one buffer, one at a time.
-use mathlib.Core.Path.{_≡_, refl, ap, sym, _∙_}
+use mathlib.Core.Path.{_≡_, refl, sym, _∙_}
 use mathlib.Core.List.{List, [], _∷_, _++_}
 use Prim.Native.Nat.{ℕ, zero, suc, _+_, _-_, _≤_, _<_}
 use native.Mathlib.Omega.{arith}
 use native.Mathlib.Numerals.{add-one}
 use native.Mathlib.Nat.{add-zero, le-refl}
 use lib.ListN.{length, take, drop, getD, set, length-set, length-take, length-drop, drop-of-length-le}
-use lib.Seq.{drop-cons, sets, set-comm, getD-set-other, getD-take, take-set-lt, take-set-le, drop-set-lt}
+use lib.Seq.{drop-cons, sets, getD-set-other, getD-take, take-set-lt, take-set-le, drop-set-lt}
 use mathlib.Core.Bool.{Bool, true, false}
 use lib.Dec.{ltb}
 use borrow.Author.Tests.{ltb-true, ltb-false}
+use Rattle.buffers.specs.Laws.{set-sets}
 
 pub sets-front : (l : List ℕ) (i : ℕ) (v : ℕ) (vs : List ℕ) → sets l i (v ∷ vs) ≡ set (sets l (suc i) vs) i v
-sets-front l i v vs = go l (suc i) vs (omega arith)
-  where
-    go : (l : List ℕ) (j : ℕ) (vs : List ℕ) → i < j → sets (set l i v) j vs ≡ set (sets l j vs) i v
-    go l j [] h = refl
-    go l j (w ∷ vs) h = ap (λ x. sets x (suc j) vs) (set-comm l i j v w (λ e. absurd (omega arith))) ∙ go (set l j w) (suc j) vs (omega arith)
+sets-front l i v vs = sym (set-sets l i v (suc i) vs (omega arith))
 
 -- bytes below a run of stores are as they were
 pub getD-sets-below : (l : List ℕ) (i : ℕ) (vs : List ℕ) (j : ℕ) → j < i → getD (sets l i vs) j 0 ≡ getD l j 0

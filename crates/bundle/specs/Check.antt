@@ -1,7 +1,7 @@
 -- The walk over a bundle's entries: what is still to be read, and the paths so far.
 use mathlib.Core.Path.{_≡_, refl, sym, ap, _∙_}
 use mathlib.Core.List.{List, [], _∷_, _++_, append-assoc, append-nil, map}
-use mathlib.Core.Bool.{Bool, true, false, not, _&&_, _||_, true≢false}
+use mathlib.Core.Bool.{Bool, true, false, not, _&&_, _||_, true≢false, and-false}
 use mathlib.Core.Option.{Option, none, some}
 use Prim.Native.Nat.{ℕ, zero, suc, _+_, _-_, _*_, _≤_, _<_}
 use native.Mathlib.Omega.{arith}
@@ -14,16 +14,13 @@ use Rattle.rules.specs.Bytes.{isPath, join, less}
 use Rattle.rules.specs.Layout.{Parser, bind, _>>=_, _>>_, pure, require, broken, remaining, word16, times}
 use Rattle.rules.specs.Bundle.{Entry, entry, goodPaths, pathsOf, bundleParser, bundleOf}
 use Rattle.rules.specs.Laws.Bool.{and-l, and-r, and-i, and-false-r, isSome}
-use Rattle.scan.specs.Paths.{Joins}
+use Rattle.rules.specs.Laws.Layout.{word-at, word-end}
+use Rattle.scan.specs.Paths.{path-long, Joins}
 use Rattle.scan.specs.declared.paths.Joined.{Joined}
-use Rattle.bundle.specs.Entries.{entryOf, headAnswer, HeadAt, word-at, word-end}
+use Rattle.bundle.specs.Entries.{entryOf, headAnswer, HeadAt}
 use Rattle.bundle.specs.Order.{Well, Marks, Marked, Agree, keeps, well-start, well-on, marks-on, bad-path, bad-order, bad-clash, well-good, ordered-none}
 use Rattle.bundle.specs.declared.entries.Head.{Head}
 use Rattle.bundle.specs.declared.walk.Walk.{Walk}
-
-and-no : (a : Bool) → (a && false) ≡ false
-and-no true = refl
-and-no false = refl
 
 -- A path of an entry, where it has at most 255 bytes.
 pub record PathOf (b : List ℕ) (h : Head) (r : Joined) : Type 0 where
@@ -126,10 +123,6 @@ module _ (x q : List ℕ) (k : ℕ) (o : List ℕ) (h : keeps x q k o ≡ true) 
   unfolding keeps
   kept-clash = not-true _ (and-r (less x q) _ (and-r (isPath q) _ h))
 
-long-path : (p : List ℕ) → leb (length p) 255 ≡ false → isPath p ≡ false
-unfolding isPath
-long-path p h = rw (h, and-no (leb 1 (length p))) refl
-
 starts-no : {ok : Bool} {w : Walk} {P : Type 0} → Starts ok w → ok ≡ false → w .ok ≡ true → P
 starts-no s e h = absurd (true≢false (sym h ∙ s .says ∙ e))
 
@@ -189,7 +182,7 @@ module _ (p : Parser Entry) (t : List ℕ) (n : ℕ) where
 
 finish-bad : (r : ℕ) (es : List Entry) → goodPaths (pathsOf es) ≡ false → finish r es ≡ none
 unfolding finish
-finish-bad r es h = rw (h, and-no (leb r 0), finish)
+finish-bad r es h = rw (h, and-false (leb r 0), finish)
 
 finish-good : (r : ℕ) (es : List Entry) → goodPaths (pathsOf es) ≡ true → isSome (finish r es) ≡ leb r 0
 unfolding finish isSome
@@ -226,7 +219,7 @@ module _ (b : List ℕ) (w : Walk) {h : Head} (H : HeadAt b (entry (length b)) (
     pub next-no-path : {p : Joined} → PathOf b h p → p .ok ≡ false → {r : Walk} → Starts false r → Next b w r
     next-no-path P q s = record {
       reads = starts-no s refl;
-      breaks = λ z es n W. more es n W ∙ closing-bad es (entryOf b h) _ (λ rest. bad-path (W .paths .well) (entryOf b h .path) (long-path (entryOf b h .path) (sym (P .says) ∙ q)) rest);
+      breaks = λ z es n W. more es n W ∙ closing-bad es (entryOf b h) _ (λ rest. bad-path (W .paths .well) (entryOf b h .path) (sym (path-long (entryOf b h .path) (leb-false _ 255 (sym (P .says) ∙ q)))) rest);
     }
 
     pub next-follow : {p : Joined} → PathOf b h p → p .ok ≡ true → {r : Walk} → Follows w (h .content .start + h .content .len) p r → Next b w r

@@ -1,24 +1,23 @@
 -- One entry of a bundle: what reading its fields promises.
 use mathlib.Core.Path.{_≡_, refl, sym, ap, _∙_}
-use mathlib.Core.List.{List, [], _∷_, _++_}
-use mathlib.Core.Bool.{Bool, true, false, not, _&&_, _||_, true≢false}
+use mathlib.Core.List.{List, [], _++_}
+use mathlib.Core.Bool.{Bool, true, false, not, _&&_, _||_, true≢false, and-false}
 use mathlib.Core.Option.{Option, none, some}
 use Prim.Native.Nat.{ℕ, zero, suc, _+_, _-_, _*_, _/_, _%_, _^_, _≤_, _<_}
 use native.Mathlib.Omega.{arith}
-use native.Mathlib.Numerals.{add-one}
-use native.Mathlib.Decide.{decLe}
 use native.Mathlib.Nat.{mod-lt, zero-mul, one-mul}
 use lib.Pow.{pow-pos}
 use lib.Bits.{bitAnd, and-high}
 use lib.Dec.{eqb, ltb, leb}
 use lib.ListN.{length, take, drop, getD, drop-of-length-le, length-drop, length-take}
-use lib.Seq.{drop-cons, drop-drop, length-take-le}
+use lib.Seq.{drop-drop, length-take-le}
 use borrow.Author.Tests.{le-ltb, lt-ltb, leb-true, leb-false, not-true, not-false, eq-eqb, ne-eqb, le-leb, lt-leb, ltb-true, ltb-false, eqb-true, eqb-false}
 use Rattle.rules.specs.Reader.{empty, all, but}
 use Rattle.rules.specs.Bytes.{holds, join}
 use Rattle.rules.specs.Layout.{Parser, bind, _>>=_, _>>_, pure, broken, require, bit, remaining, byte, word16, field, fieldIf, take as takeBytes}
 use Rattle.rules.specs.Bundle.{Entry, entry}
 use Rattle.rules.specs.Laws.Bool.{and-l, and-r, and-i, or-elim, or-false-l, or-false-r}
+use Rattle.rules.specs.Laws.Layout.{byte-at, byte-end, word-at, word-end, takes, takes-short, take-some}
 use Rattle.scan.specs.Sets.{Spans}
 use Rattle.scan.specs.Laws.{span-all, all-span}
 use Rattle.bundle.specs.declared.entries.Field.{Field}
@@ -51,24 +50,6 @@ pub record FieldAt (b : List ℕ) (p : Parser (List ℕ)) (i : ℕ) (r : Field) 
   pub reads : p (drop i b) ≡ fieldAnswer b (r .ok) (r .start) (r .len)
   pub inside : r .start + r .len ≤ length b
 
-takes : (n : ℕ) (t : List ℕ) → n ≤ length t → takeBytes n t ≡ some (take n t, drop n t)
-unfolding takeBytes pure _>>=_ bind byte
-takes zero t h = refl
-takes (suc n) [] h = absurd (omega arith)
-takes (suc n) (x ∷ xs) h = rw (takes n xs (omega arith))
-
-takes-short : (n : ℕ) (t : List ℕ) → length t < n → takeBytes n t ≡ none
-unfolding takeBytes pure _>>=_ bind byte
-takes-short zero t h = absurd (omega arith)
-takes-short (suc n) [] h = refl
-takes-short (suc n) (x ∷ xs) h = rw (takes-short n xs (omega arith))
-
-take-some : (n : ℕ) (t : List ℕ) → 0 < n → n ≤ length t → empty (take n t) ≡ false
-unfolding empty
-take-some zero t h k = absurd (omega arith)
-take-some (suc n) [] h k = absurd (omega arith)
-take-some (suc n) (x ∷ xs) h k = refl
-
 module _ (b : List ℕ) (s n : ℕ) (h : s ≤ length b) where
   pub body-ok : (eqb n 0 || ltb (length b - s) n) ≡ false → Body b s n (record { ok = true; start = s; len = n })
   unfolding fieldBytes _>>=_ _>>_ bind pure require fieldAnswer
@@ -88,29 +69,6 @@ module _ (b : List ℕ) (s n : ℕ) (h : s ≤ length b) where
 
       none-short : ltb (length b - s) n ≡ true → fieldBytes n (drop s b) ≡ fieldAnswer b false 0 0
       none-short q = rw (takes-short n (drop s b) (omega (arith, ltb-true (length b - s) n q, length-drop s b)))
-
-module _ (b : List ℕ) (i : ℕ) where
-  byte-at : i < length b → byte (drop i b) ≡ some (getD b i 0, drop (i + 1) b)
-  unfolding byte
-  byte-at h = rw (add-one, drop-cons b i 0)
-
-  byte-end : length b ≤ i → byte (drop i b) ≡ none
-  unfolding byte
-  byte-end h = rw (drop-of-length-le b h)
-
--- 16 bits at a place, low byte first.
-module _ (b : List ℕ) (i : ℕ) where
-  pub word-at : i + 1 < length b → word16 (drop i b) ≡ some (getD b i 0 + 256 * getD b (i + 1) 0, drop (i + 2) b)
-  unfolding word16 _>>=_ bind pure
-  word-at h = let e : i + 2 ≡ i + 1 + 1 = omega arith in rw (e, byte-at b i (omega arith), byte-at b (i + 1) h)
-
-  pub word-end : length b < i + 2 → word16 (drop i b) ≡ none
-  unfolding word16 _>>=_ bind pure
-  word-end h = go (decLe (length b) i)
-    where
-      go : Dec (length b ≤ i) → word16 (drop i b) ≡ none
-      go (yes k) = rw (byte-end b i k)
-      go (no k) = rw (byte-at b i (omega arith), byte-end b (i + 1) (omega arith))
 
 module _ {b : List ℕ} {i : ℕ} {r : Field} where
   -- Behind its length.
@@ -147,10 +105,6 @@ module _ (b : List ℕ) (i : ℕ) where
   pub field-short : {on wide : Bool} {r : Field} → on ≡ true → wide ≡ false → FieldAt b (field byte) i r → FieldAt b (fieldIf on (lengthOf wide)) i r
   unfolding fieldIf
   field-short e q k = record { reads = rw (e, q) (k .reads); inside = k .inside }
-
-and-no : (a : Bool) → (a && false) ≡ false
-and-no true = refl
-and-no false = refl
 
 -- A bit of a map byte is a mask's.
 pub mask-bit : (k m : ℕ) → not (eqb (bitAnd m (2 ^ (1 + k) - 2 ^ k)) 0) ≡ bit k m
@@ -289,7 +243,7 @@ module _ (b : List ℕ) (i : ℕ) where
         big z = rw (le-ltb (getD b i 0) 8 (leb-true 8 (getD b i 0) z))
 
         unnamed : not s ≡ true → (ltb (getD b i 0) 8 && bit 1 (getD b i 0)) ≡ false
-        unnamed z = rw (sym e ∙ not-true s z) (and-no (ltb (getD b i 0) 8))
+        unnamed z = rw (sym e ∙ not-true s z) (and-false (ltb (getD b i 0) 8))
 
     pub entry-fields : {s : Bool} → s ≡ bit 1 (getD b i 0) → {h : Head} → (leb 8 (getD b i 0) || not s) ≡ false → HeadAt b (entryFields (length b) (getD b i 0)) (i + 1) h → HeadAt b (entry (length b)) i h
     unfolding _>>_ bind require pure

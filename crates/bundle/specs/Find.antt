@@ -1,7 +1,7 @@
 -- Looking a path up in a bundle.
 use mathlib.Core.Path.{_≡_, refl, sym, ap, _∙_}
 use mathlib.Core.List.{List, [], _∷_, _++_}
-use mathlib.Core.Bool.{Bool, true, false, not, _&&_, _||_, true≢false}
+use mathlib.Core.Bool.{Bool, true, false, not, _&&_, _||_, true≢false, or-assoc, or-false}
 use mathlib.Core.Option.{Option, none, some}
 use Prim.Native.Nat.{ℕ, zero, suc, _+_, _-_, _*_, _≤_, _<_}
 use native.Mathlib.Omega.{arith}
@@ -17,7 +17,7 @@ use Rattle.rules.specs.Bundle.{Entry, entry, above, ascending, goodPaths, paths
 use Rattle.rules.specs.Files.{File, absent, folder, file, entryAt, isFolderOf, fileOf, view}
 use Rattle.rules.specs.Laws.Bool.{and-l, and-r, and-i, true-leb, isSome}
 use Rattle.scan.specs.Sets.{Starts, Sees, byteIs}
-use Rattle.bundle.specs.Entries.{entryOf, headAnswer, HeadAt, word-at, word-end}
+use Rattle.bundle.specs.Entries.{entryOf, headAnswer, HeadAt}
 use Rattle.bundle.specs.Check.{PathOf, closing, finish, bundle-rest, check-short}
 use Rattle.bundle.specs.declared.entries.Head.{Head}
 use Rattle.bundle.specs.declared.near.Relation.{Relation}
@@ -68,10 +68,6 @@ pub record Near (b : List ℕ) (h : Head) (p : List ℕ) (r : Relation) : Type 0
   pub under : r .below ≡ above p (entryOf b h .path)
 
 -- TWO PATHS.
-pub same-of : (p q : List ℕ) {r : Bool} → Starts p q 0 r → (eqb (length p) (length q) && r) ≡ same p q
-unfolding same
-same-of p q {r} s = rw (sym (s .says))
-
 eqb-comm : (a b : ℕ) → eqb a b ≡ eqb b a
 eqb-comm a b = at (eqb a b) (eqb b a) refl refl
   where
@@ -224,14 +220,6 @@ path-short : (p : List ℕ) → isPath p ≡ true → leb (length p) 255 ≡ tru
 unfolding isPath
 path-short p h = and-r (leb 1 (length p)) _ (and-l (leb 1 (length p) && leb (length p) 255) _ h)
 
-or-assoc : (a b c : Bool) → (a || (b || c)) ≡ (a || b || c)
-or-assoc true b c = refl
-or-assoc false b c = refl
-
-or-no : (a : Bool) → (a || false) ≡ a
-or-no true = refl
-or-no false = refl
-
 folder-cons : (e : Entry) (es : List Entry) (p : List ℕ) → isFolderOf (e ∷ es) p ≡ (above p (e .path) || isFolderOf es p)
 unfolding isFolderOf all
 folder-cons e es p = at (above p (e .path)) refl
@@ -261,7 +249,7 @@ module _ {b p : List ℕ} {n : ℕ} {f : Bool} {h : Head} (A : Ahead b p n f h) 
       rest = A .rest;
       paths = A .paths;
       asked = A .asked ∙ asked-no (entryOf b h) (A .later) p (sym (N .is) ∙ e);
-      folders = A .folders ∙ ap (λ z. f || z) (folder-cons (entryOf b h) (A .later) p) ∙ rw (sym (N .under)) (or-assoc f (r .below) (isFolderOf (A .later) p));
+      folders = A .folders ∙ ap (λ z. f || z) (folder-cons (entryOf b h) (A .later) p) ∙ rw (sym (N .under)) (sym (or-assoc f (r .below) (isFolderOf (A .later) p)));
     }
 
 module _ {b p : List ℕ} {n i : ℕ} {f : Bool} (F : Finding b p n i f) (k : n ≤ 0) where
@@ -278,7 +266,7 @@ module _ {b p : List ℕ} {n i : ℕ} {f : Bool} (F : Finding b p n i f) (k : n 
 
   is-folder : isFolderOf (entriesOf b) p ≡ f
   unfolding isFolderOf all
-  is-folder = F .folders ∙ ap (λ y. f || isFolderOf y p) none-left ∙ or-no f
+  is-folder = F .folders ∙ ap (λ y. f || isFolderOf y p) none-left ∙ or-false f
 
   pub finding-folder : f ≡ true → Finds b (entriesOf b) p Folder
   unfolding located fileAt view fileOf

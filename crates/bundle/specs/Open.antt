@@ -1,7 +1,7 @@
 -- Opening a file, and the search for `CITATION.cff`.
 use mathlib.Core.Path.{_≡_, refl, sym, ap, _∙_}
 use mathlib.Core.List.{List, [], _∷_, _++_}
-use mathlib.Core.Bool.{Bool, true, false, not, _&&_, true≢false}
+use mathlib.Core.Bool.{Bool, true, false, not, true≢false}
 use Prim.Native.Nat.{ℕ, zero, suc, _+_, _-_, _≤_, _<_}
 use native.Mathlib.Omega.{arith}
 use lib.Dec.{leb}
@@ -9,10 +9,11 @@ use lib.ListN.{length, take, drop}
 use lib.Seq.{length-take-le, take-length, take-take}
 use Rattle.rules.specs.Answer.{Answer, refused, accepted, _>>=_, _>>_, check}
 use Rattle.rules.specs.Reader.{bytes, all, but}
-use Rattle.rules.specs.Bytes.{ascii, isPath, isSegment, split, join, parent, holds}
+use Rattle.rules.specs.Bytes.{ascii, isPath, join, parent, holds}
 use Rattle.rules.specs.Bundle.{Entry}
 use Rattle.rules.specs.Files.{View, File, absent, folder, file, view, contentOf, fetch, plain, opened, exists, hasCitation, upward, projectRoot}
-use Rattle.scan.specs.Paths.{Parent}
+use borrow.Author.Tests.{leb-false}
+use Rattle.scan.specs.Paths.{path-long, Parent}
 use Rattle.bundle.specs.Find.{Finds, fileAt}
 use Rattle.bundle.specs.declared.Found.{Found}
 use Rattle.bundle.specs.declared.Found.the-variants.{Absent, Folder, File as At}
@@ -82,17 +83,9 @@ module _ (b p : List ℕ) (v : View) where
   open-text k q o = record { says = rw (k .says, q) (o .says); inside = o .inside }
 
 -- A path that is too long: 4.
-long-path : (p : List ℕ) → leb (length p) 255 ≡ false → isPath p ≡ false
-unfolding isPath
-long-path p h = rw h (at (leb 1 (length p)) (all isSegment (split "/" p)))
-  where
-    at : (a c : Bool) → (a && false && c) ≡ false
-    at true c = refl
-    at false c = refl
-
 pub long-fetch : (v : View) (p : List ℕ) → leb (length p) 255 ≡ false → fetch v p ≡ refused 4
 unfolding fetch check _>>_
-long-fetch v p h = rw (long-path p h) refl
+long-fetch v p h = rw (sym (path-long p (leb-false _ 255 h))) refl
 
 pub long-opened : (b : List ℕ) (v : View) (p : List ℕ) → leb (length p) 255 ≡ false → Opens b (opened v p) (Refused 4)
 unfolding opened _>>=_ answerOf

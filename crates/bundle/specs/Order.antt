@@ -2,7 +2,7 @@
 use mathlib.Core.Path.{_≡_, refl, sym, ap, _∙_}
 use mathlib.Core.Logic.{_⊎_, inl, inr, ⊎-elim}
 use mathlib.Core.List.{List, [], _∷_, _++_, append-assoc}
-use mathlib.Core.Bool.{Bool, true, false, not, _&&_, _||_, true≢false}
+use mathlib.Core.Bool.{Bool, true, false, not, _&&_, true≢false, false≢true, or-false}
 use Prim.Native.Nat.{ℕ, zero, suc, _+_, _≤_, _<_}
 use native.Mathlib.Omega.{arith}
 use native.Mathlib.Decide.{decLe}
@@ -10,18 +10,13 @@ use native.Mathlib.Numerals.{add-one}
 use lib.Dec.{eqb, ltb, leb}
 use lib.ListN.{length, take, drop, getD, set, length-set, length-append, length-drop, take-append-drop, drop-of-length-le, List·getD-append}
 use lib.Seq.{take-suc, getD-set-same, getD-set-other, drop-cons, split-at, take-length, take-append-seam, take-take, length-take-le, getD-take, getD-append-seam}
-use borrow.Author.Tests.{le-ltb, lt-ltb, eq-eqb, ne-eqb, ltb-true, eqb-true}
+use borrow.Author.Tests.{le-ltb, eq-eqb, ne-eqb, eqb-true}
 use Rattle.rules.specs.Reader.{all, prefix, bytes}
 use Rattle.rules.specs.Bytes.{isPath, less}
 use Rattle.rules.specs.Bundle.{ascending, above, goodPaths}
-use Rattle.rules.specs.Laws.Bool.{and-l, and-r, and-i, or-elim, or-i-l, or-i-r, not-true}
-
-and-no : (a : Bool) → (a && false) ≡ false
-and-no true = refl
-and-no false = refl
-
-no-true : {P : Type 0} → false ≡ true → P
-no-true h = absurd (true≢false (sym h))
+use Rattle.rules.specs.Laws.Bool.{and-l, and-r, and-i, not-true}
+use Rattle.rules.specs.Laws.Sheet.{less-elim, less-tail, less-irrefl, less-trans}
+use Rattle.scan.specs.Laws.{prefix-split}
 
 no-cons : {P : Type 0} {x : ℕ} {xs : List ℕ} → x ∷ xs ≡ [] → P
 no-cons h = let z : _≡_ {A = ℕ} 0 1 = cc in absurd (omega arith)
@@ -58,36 +53,6 @@ in-all f [] h = refl
 in-all f (q ∷ ps) h = and-i (f q) (all f ps) (h q (inl refl)) (in-all f ps (λ p k. h p (inr k)))
 
 -- THE ORDER.
-less-lt : (x y : ℕ) (xs ys : List ℕ) → x < y → less (x ∷ xs) (y ∷ ys) ≡ true
-unfolding less
-less-lt x y xs ys h = or-i-l (ltb x y) _ (lt-ltb x y h)
-
-less-eq : (x y : ℕ) (xs ys : List ℕ) → x ≡ y → less xs ys ≡ true → less (x ∷ xs) (y ∷ ys) ≡ true
-unfolding less
-less-eq x y xs ys e h = or-i-r (ltb x y) _ (and-i (eqb x y) _ (eq-eqb x y e) h)
-
-less-inv : (x y : ℕ) (xs ys : List ℕ) → less (x ∷ xs) (y ∷ ys) ≡ true → (x < y) ⊎ ((x ≡ y) × (less xs ys ≡ true))
-unfolding less
-less-inv x y xs ys h = or-elim (ltb x y) (eqb x y && less xs ys) h (λ k. inl (ltb-true x y k)) (λ k. inr (eqb-true x y (and-l (eqb x y) (less xs ys) k), and-r (eqb x y) (less xs ys) k))
-
-less-irr : (a : List ℕ) → less a a ≡ true → ⊥
-unfolding less
-less-irr [] h = no-true h
-less-irr (x ∷ xs) h = ⊎-elim (λ k. omega arith) (λ k. less-irr xs (k .1)) (less-inv x x xs xs h)
-
-less-trans : (a b c : List ℕ) → less a b ≡ true → less b c ≡ true → less a c ≡ true
-unfolding less
-less-trans [] [] c h k = no-true h
-less-trans [] (y ∷ ys) [] h k = no-true k
-less-trans [] (y ∷ ys) (z ∷ zs) h k = refl
-less-trans (x ∷ xs) [] c h k = no-true h
-less-trans (x ∷ xs) (y ∷ ys) [] h k = no-true k
-less-trans (x ∷ xs) (y ∷ ys) (z ∷ zs) h k =
-    ⊎-elim
-    (λ l. ⊎-elim (λ m. less-lt x z xs zs (omega arith)) (λ m. less-lt x z xs zs (omega (arith, m .0))) (less-inv y z ys zs k))
-    (λ l. ⊎-elim (λ m. less-lt x z xs zs (omega (arith, l .0))) (λ m. less-eq x z xs zs (l .0 ∙ m .0) (less-trans xs ys zs (l .1) (m .1))) (less-inv y z ys zs k))
-    (less-inv x y xs ys h)
-
 abbrev pub Le : List ℕ → List ℕ → Type 0
 Le p x = (p ≡ x) ⊎ (less p x ≡ true)
 
@@ -99,18 +64,17 @@ le-less p x q (inr k) h = less-trans p x q k h
 le-nil : (c : ℕ) (p : List ℕ) → Le (c ∷ p) [] → ⊥
 unfolding less
 le-nil c p (inl e) = no-cons e
-le-nil c p (inr l) = no-true l
+le-nil c p (inr l) = absurd (false≢true l)
 
 between : (c d : ℕ) (p x s : List ℕ) → Le (c ∷ p) (d ∷ x) → less (d ∷ x) (c ∷ (p ++ s)) ≡ true → (c ≡ d) × Le p x × (less x (p ++ s) ≡ true)
 between c d p x s (inl e) k =
     let f : c ≡ d = cc in
     let g : p ≡ x = cc in
-    ⊎-elim (λ m. absurd (omega arith)) (λ m. (f, inl g, m .1)) (less-inv d c x (p ++ s) k)
+    less-elim d c x (p ++ s) k (λ m. absurd (omega arith)) (λ m n. (f, inl g, n))
 between c d p x s (inr l) k =
-    ⊎-elim
-    (λ v. ⊎-elim (λ m. absurd (omega arith)) (λ m. absurd (omega (arith, m .0))) (less-inv d c x (p ++ s) k))
-    (λ v. ⊎-elim (λ m. absurd (omega (arith, v .0))) (λ m. (v .0, inr (v .1), m .1)) (less-inv d c x (p ++ s) k))
-    (less-inv c d p x l)
+    less-elim c d p x l
+    (λ v. less-elim d c x (p ++ s) k (λ m. absurd (omega arith)) (λ m n. absurd (omega arith)))
+    (λ v w. less-elim d c x (p ++ s) k (λ m. absurd (omega arith)) (λ m n. (v, inr w, n)))
 
 sandwich : (p x s : List ℕ) → Le p x → less x (p ++ s) ≡ true → (u : List ℕ) × (x ≡ p ++ u)
 sandwich [] x s h k = (x, refl)
@@ -121,18 +85,9 @@ sandwich (c ∷ p) (d ∷ x) s h k =
     (r .0, cc (f .0, r .1))
 
 -- A PATH followed by `/`.
-prefix-split : (m t : List ℕ) → prefix m t ≡ true → (r : List ℕ) × (t ≡ m ++ r)
-unfolding prefix
-prefix-split [] t h = (t, refl)
-prefix-split (c ∷ m) [] h = no-true h
-prefix-split (c ∷ m) (x ∷ xs) h =
-    let e = eqb-true c x (and-l (eqb c x) (prefix m xs) h) in
-    let r = prefix-split m xs (and-r (eqb c x) (prefix m xs) h) in
-    (r .0, cc (r .1))
-
 above-split : (p q : List ℕ) → above p q ≡ true → (r : List ℕ) × (q ≡ p ++ (47 ∷ r))
 unfolding above
-above-split p q h = let s = prefix-split (p ++ bytes "/") q h in (s .0, s .1 ∙ append-assoc p (47 ∷ []) (s .0))
+above-split p q h = let r = drop (length (p ++ bytes "/")) q in (r, prefix-split (p ++ bytes "/") q h ∙ append-assoc p (47 ∷ []) r)
 
 split-above : (p r : List ℕ) → above p (p ++ (47 ∷ r)) ≡ true
 unfolding above prefix
@@ -142,7 +97,7 @@ split-above (c ∷ p) r = and-i (eqb c c) _ (eq-eqb c c refl) (split-above p r)
 less-more : (p r : List ℕ) → less p (p ++ (47 ∷ r)) ≡ true
 unfolding less
 less-more [] r = refl
-less-more (c ∷ p) r = less-eq c c p (p ++ (47 ∷ r)) refl (less-more p r)
+less-more (c ∷ p) r = less-tail c c p (p ++ (47 ∷ r)) refl (less-more p r)
 
 above-less : (p q : List ℕ) → above p q ≡ true → less p q ≡ true
 above-less p q h = let s = above-split p q h in rw (s .1) (less-more p (s .0))
@@ -177,11 +132,7 @@ module _ {x q : List ℕ} {k : ℕ} (s : Agree x q k) where
 
   pub ordered-byte : k < length q → k < length x → ltb (getD x k 0) (getD q k 0) ≡ less x q
   unfolding less
-  ordered-byte h l = sym (less-drop ∙ rw (drop-cons x k 0, drop-cons q k 0, ne-eqb (getD x k 0) (getD q k 0) (s .ends l h)) (or-no (ltb (getD x k 0) (getD q k 0))))
-    where
-      or-no : (a : Bool) → (a || false) ≡ a
-      or-no true = refl
-      or-no false = refl
+  ordered-byte h l = sym (less-drop ∙ rw (drop-cons x k 0, drop-cons q k 0, ne-eqb (getD x k 0) (getD q k 0) (s .ends l h)) (or-false (ltb (getD x k 0) (getD q k 0))))
 
 -- THE LAST PATH of some paths that keep the rules so far.
 abbrev pub lastOf : List (List ℕ) → List ℕ
@@ -218,7 +169,7 @@ asc-cut p (t ∷ ts) q r h = asc-cut t ts q r (and-r (less p t) (ascending ((t �
 
 path-some : (q : List ℕ) → isPath q ≡ true → less [] q ≡ true
 unfolding isPath less
-path-some [] h = no-true h
+path-some [] h = absurd (false≢true h)
 path-some (x ∷ xs) h = refl
 
 last-snoc : (ps : List (List ℕ)) (q : List ℕ) → q ≡ lastOf (ps ++ (q ∷ []))
@@ -307,7 +258,7 @@ module _ {ps : List (List ℕ)} {x q o : List ℕ} {k : ℕ} (w : Well ps x) (s 
   no-clash c p i = not-true (above p q) (λ a. let h = clash p i a in true≢false (sym (and-i _ _ (eq-eqb (getD q k 0) 47 (h .0)) (eq-eqb (getD o k 0) 1 (h .1))) ∙ c))
 
   not-back : (p : List ℕ) → In p ps → above q p ≡ false
-  not-back p i = not-true (above q p) (λ a. less-irr q (less-trans q p q (above-less q p a) (le-less p x q (w .below p i) l)))
+  not-back p i = not-true (above q p) (λ a. true≢false (sym (less-trans q p q (above-less q p a) (le-less p x q (w .below p i) l)) ∙ less-irrefl q))
 
   -- One path more.
   pub well-on : isPath q ≡ true → (eqb (getD q k 0) 47 && eqb (getD o k 0) 1) ≡ false → Well (ps ++ (q ∷ [])) q
@@ -324,7 +275,7 @@ module _ {ps : List (List ℕ)} {x q o : List ℕ} {k : ℕ} (w : Well ps x) (s 
       both p r (inl i) (inl j) = w .apart p r i j
       both p r (inl i) (inr e) = rw e (no-clash c p i)
       both p r (inr d) (inl j) = rw d (not-back r j)
-      both p r (inr d) (inr e) = rw (d, e) (not-true (above q q) (λ a. less-irr q (above-less q q a)))
+      both p r (inr d) (inr e) = rw (d, e) (not-true (above q q) (λ a. true≢false (sym (above-less q q a) ∙ less-irrefl q)))
 
   pub marks-on : {n : List ℕ} → k < length q → Marked o n k (length q) → Marks (ps ++ (q ∷ [])) q n
   marks-on {n} h d = record { on = on; off = off }

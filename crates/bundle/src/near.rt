@@ -1,18 +1,10 @@
 // How an entry's path stands to a path that is asked for.
 ghost use mathlib.Core.Path.{_≡_};
-ghost use Rattle.rules.specs.Reader.{same};
 ghost use Rattle.rules.specs.Bundle.{above};
 ghost use Rattle.bundle.specs.Entries.{entryOf};
 ghost use Rattle.bundle.specs.Find.{Near, Reachable};
 use crate::entries::Head;
 use crate::walk::path_of;
-
-// Are two paths the same?
-fn same(p: &[u8], q: &[u8]) -> bool
-    ensures { λ r. ⌜ r ≡ same (now (p .entry)) (now (q .entry)) ⌝ }
-{
-    (p.len() == q.len()) & scan::starts_with(q, 0, p)
-}
 
 // Does p, followed by `/`, begin q?
 fn above(p: &[u8], q: &[u8]) -> bool
@@ -37,7 +29,7 @@ pub fn relate(b: &[u8], h: Head, path: &[u8]) -> Relation
     let p = path_of(b, h);
     let bytes = p.bytes;
     let n = p.len;
-    let is = same(&bytes[..n], path);
+    let is = scan::same(&bytes[..n], path);
     let below = above(path, &bytes[..n]);
     Relation {
         same: is,

@@ -14,9 +14,8 @@ use Rattle.rules.specs.Strings.{literal, reference}
 use Rattle.rules.specs.Expansion.{Arguments, stalled, arguments, Round, langValue, blockValue, argumentValue, argumentRound}
 use Rattle.rules.specs.Laws.Enough.{rounds-again, rounds-stop, argument-moving}
 use Rattle.scan.specs.Sets.{byteIs, part, Spans, Sees}
-use Rattle.scan.specs.Laws.{Spanning, spanning-on, spanning-off, spanning-end, skip-at, sees-at}
+use Rattle.scan.specs.Laws.{seen, sees-the, seen-byte, skip-at, Spanning, spanning-on, spanning-off, spanning-end}
 use Rattle.scan.specs.Paths.{tail-part}
-use Rattle.strings.specs.Laws.{seen, sees-char}
 use Rattle.calls.specs.declared.values.Value.{Value}
 use Rattle.calls.specs.declared.values.Value.the-variants.{Empty, Literal, Reference}
 use Rattle.calls.specs.declared.args.Lang.{Lang}
@@ -80,7 +79,7 @@ module _ (look : List ℕ → List ℕ) (b : List ℕ) {t : List ℕ} {i : ℕ} 
         on = omega arith;
         inside = omega (arith, simp length-drop at (v .inside));
         lies = omega arith;
-        takes = λ z. rw (seen (sees-char "\"" s) e .says, skip-at t i h, r) refl;
+        takes = λ z. rw (sees-the "\"" s e .says, skip-at t i h, r) refl;
       }
 
   pub speaks-reference : {k : ℕ} → q ≡ false → Spans runByte t i k → Speaks look b t i (record { value = Reference i k; at = k })
@@ -89,17 +88,13 @@ module _ (look : List ℕ → List ℕ) (b : List ℕ) {t : List ℕ} {i : ℕ} 
     on = n .on;
     inside = n .inside;
     lies = (n .on, n .inside);
-    takes = λ z. rw (seen (sees-char "\"" s) e .says, n .took, n .rest) refl;
+    takes = λ z. rw (sees-the "\"" s e .says, n .took, n .rest) refl;
   }
 
 -- OVER BLANKS AND COMMAS, from i to g: a `)` is none of them.
 closed : (x : ℕ) → but ")" x ≡ false → either "," blank x ≡ false
 unfolding but either blank
 closed x e = let z : x ≡ 41 = eqb-true x 41 (not-false _ e) in rw z refl
-
--- What is seen is what the byte there is.
-seen-byte : {p : ℕ → Bool} {t : List ℕ} {g : ℕ} {m v : Bool} → Sees p t g m → m ≡ v → g < length t → p (getD t g 0) ≡ v
-seen-byte {p} {t} {g} M e h = ap (λ z. z .0) (sym (sees-at p t g h) ∙ M .says) ∙ e
 
 module _ {t : List ℕ} {i g : ℕ} (G : Spanning (either "," blank) t i g) where
   -- They go on, or end, by what is seen.

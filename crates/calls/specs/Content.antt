@@ -10,13 +10,13 @@ use lib.ListN.{length, take, drop, length-drop}
 use lib.Seq.{sets, drop-drop}
 use borrow.Author.Tests.{lt-leb, eq-eqb, ne-eqb, eqb-true, eqb-false}
 use Rattle.rules.specs.Answer.{Answer, refused, accepted}
-use Rattle.rules.specs.Reader.{Reader, bytes, the, but, prefix, span, sees, skip, mark, ret, ifR, _>>=_, _>>_}
+use Rattle.rules.specs.Reader.{Reader, bytes, but, prefix, span, sees, skip, mark, ret, ifR, _>>=_, _>>_}
 use Rattle.rules.specs.Bytes.{blank, runByte, isPath, underscored}
 use Rattle.rules.specs.Strings.{reference, expression}
 use Rattle.rules.specs.Files.{View, fetch, opened}
 use Rattle.rules.specs.Expansion.{Content, handedBack, noContent, given, rawContent, withoutSlash, readCall, content}
 use Rattle.scan.specs.Sets.{Spans, Skips, Sees, Starts, byteIs}
-use Rattle.scan.specs.Laws.{skips-at, mark-of, mark-yes, mark-no}
+use Rattle.scan.specs.Laws.{sees-the, skips-at, mark-of, mark-yes, mark-no}
 use Rattle.scan.specs.Paths.{drop-take, tail-part}
 use Rattle.bundle.specs.Open.{Opens, answerOf, stop, long-opened}
 use Rattle.buffers.specs.Laws.{put-fits, put-not, stored-first}
@@ -57,15 +57,6 @@ pub record Contents (c : Content × List ℕ) (look : List ℕ → List ℕ) (b 
   pub inside : r .at ≤ length t
   pub within : ToldInside b t (r .told)
   pub says : c ≡ (toldContent look b t (r .told), drop (r .at) t)
-
--- What the scan of a byte says of the character.
-sees-paren : {t : List ℕ} {i : ℕ} {r c : Bool} → Sees (byteIs 40) t i r → r ≡ c → Sees (the "(") t i c
-unfolding the
-sees-paren s e = rw e at s
-
-sees-quote : {t : List ℕ} {i : ℕ} {r c : Bool} → Sees (byteIs 34) t i r → r ≡ c → Sees (the "\"") t i c
-unfolding the
-sees-quote s e = rw e at s
 
 -- THE PATH OF A FILE.
 pub path-in : {t b path : List ℕ} {n : ℕ} {w : List ℕ × List ℕ} {k : ℕ} → length b ≡ 256 → Wrote 256 w t b 0 path k n → PathIn (w .0) path n
@@ -131,7 +122,7 @@ told-says look b t (Text s n) r o h = let z : s + n - s ≡ n = omega arith in r
 module _ (v : View) (look : List ℕ → List ℕ) {b t : List ℕ} {at i : ℕ} (l : Spans blank t at i) {c : Bool} (q : Sees (byteIs 40) t i c) where
   pub read-back : c ≡ false → Contents (readCall v look (drop at t)) look b t at (record { told = HandedBack; at = i })
   unfolding readCall toldContent ToldInside _>>=_ _>>_ ifR ret
-  read-back e = record { on = l .on; inside = l .inside; within = tt; says = rw (l .rest, sees-paren q e .says) refl }
+  read-back e = record { on = l .on; inside = l .inside; within = tt; says = rw (l .rest, sees-the "(" q e .says) refl }
 
   pub read-file : c ≡ true → {o path : List ℕ} {k n : ℕ} → Wrote 256 (expression look (take (length t - (i + 1)) (drop (i + 1) t))) (take (length t - (i + 1)) (drop (i + 1) t)) o 0 path k n →
       {j m : ℕ} → Spans (but ")") t (i + 1 + k) j → Skips t j m → (f : Opened) {r : Told} → Opens b (opened v (withoutSlash (expression look (take (length t - (i + 1)) (drop (i + 1) t)) .0))) f → FileIs f r →
@@ -150,7 +141,7 @@ module _ (v : View) (look : List ℕ → List ℕ) {b t : List ℕ} {at i : ℕ}
       behind = ap (λ z. expression look z .1) (sym tail) ∙ w .rest ∙ ap (drop k) tail ∙ drop-drop k (i + 1) t
 
       reads : readCall v look (drop at t) ≡ (rawContent (opened v (withoutSlash (expression look (take (length t - (i + 1)) (drop (i + 1) t)) .0))), drop m t)
-      reads = unfold readCall _>>=_ _>>_ ifR ret in (rw (l .rest, sees-paren q e .says, skips-at t i (q .there e) .rest, behind, x .rest, y .rest, tail) refl)
+      reads = unfold readCall _>>=_ _>>_ ifR ret in (rw (l .rest, sees-the "(" q e .says, skips-at t i (q .there e) .rest, behind, x .rest, y .rest, tail) refl)
 
 -- The content, by what the scans gave.
 module _ (v : View) (look : List ℕ → List ℕ) {b t : List ℕ} {i : ℕ} (z : i ≤ length t) {c : Bool} (q : Sees (byteIs 34) t i c) where
@@ -158,13 +149,13 @@ module _ (v : View) (look : List ℕ → List ℕ) {b t : List ℕ} {i : ℕ} (z
   unfolding content toldContent ToldInside valueText Inside _>>=_ _>>_ ifR ret
   content-expression e {k} w =
       let u : Ends (expression look (drop i t)) (drop i t) k = rw tail-part at w in
-      record { on = omega arith; inside = omega (arith, simp length-drop at (u .inside)); within = z; says = rw (sees-quote q e .says, u .rest ∙ drop-drop k i t) refl }
+      record { on = omega arith; inside = omega (arith, simp length-drop at (u .inside)); within = z; says = rw (sees-the "\"" q e .says, u .rest ∙ drop-drop k i t) refl }
 
   module _ (e : c ≡ false) {d : Bool} (m : Starts (bytes "read") t i d) where
     pub content-read : d ≡ true → {r : Read} → Contents (readCall v look (drop (i + 4) t)) look b t (i + 4) r → Contents (content v look (drop i t)) look b t i r
     unfolding content _>>=_ _>>_ ifR ret
-    content-read h w = record { on = omega (arith, w .on); inside = w .inside; within = w .within; says = rw (sees-quote q e .says, mark-yes m h) (w .says) }
+    content-read h w = record { on = omega (arith, w .on); inside = w .inside; within = w .within; says = rw (sees-the "\"" q e .says, mark-yes m h) (w .says) }
 
     pub content-reference : d ≡ false → {k : ℕ} → Spans runByte t i k → Contents (content v look (drop i t)) look b t i (record { told = Given (Reference i k); at = k })
     unfolding content reference toldContent ToldInside valueText Inside _>>=_ _>>_ ifR ret
-    content-reference h r = record { on = r .on; inside = r .inside; within = (r .on, r .inside); says = rw (sees-quote q e .says, mark-no m h, r .took, r .rest) refl }
+    content-reference h r = record { on = r .on; inside = r .inside; within = (r .on, r .inside); says = rw (sees-the "\"" q e .says, mark-no m h, r .took, r .rest) refl }

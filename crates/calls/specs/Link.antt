@@ -2,24 +2,21 @@
 use mathlib.Core.Path.{_≡_, refl, sym, ap, _∙_}
 use mathlib.Core.List.{List, [], _∷_, _++_, append-assoc}
 use mathlib.Core.Bool.{Bool, true, false}
-use Prim.Native.Nat.{ℕ, suc, _+_, _-_, _≤_, _<_}
+use Prim.Native.Nat.{ℕ, _+_, _-_, _≤_, _<_}
 use native.Mathlib.Omega.{arith}
-use native.Mathlib.Nat.{add-zero}
-use lib.ListN.{length, take, drop, set, length-append, length-drop}
+use lib.ListN.{length, take, drop, length-append, length-drop}
 use lib.Seq.{sets, sets-eq, length-take-le, take-at, drop-at, drop-drop}
 use Rattle.rules.specs.Reader.{Reader, bytes, empty, same, ret, ifR, _>>=_, _>>_}
 use Rattle.rules.specs.Bytes.{blank, lineBlank}
 use Rattle.rules.specs.Strings.{expression}
 use Rattle.rules.specs.Expansion.{Call, outputs, linkText, linkBox, linkEnd, link}
 use Rattle.scan.specs.Sets.{byteIs, notByte, part, Spans, Skips, Sees}
-use Rattle.scan.specs.Laws.{skip-at}
+use Rattle.scan.specs.Laws.{sees-the, skip-at}
 use Rattle.scan.specs.Paths.{drop-take, tail-part}
 use Rattle.scan.specs.Stretches.{spans-but}
 use Rattle.strings.specs.Read.{Wrote}
-use Rattle.strings.specs.Laws.{seen, sees-char}
 use Rattle.buffers.specs.Put.{Put}
-use Rattle.buffers.specs.Laws.{after-fits, put-length, put-fits, put-ended, put-not, put-then}
-use Rattle.buffers.specs.Move.{sets-front}
+use Rattle.buffers.specs.Laws.{after-fits, sets-before, put-length, put-fits, put-ended, put-not, put-then}
 use Rattle.buffers.specs.Emits.{Fills, fill-then, put-fills}
 use Rattle.calls.specs.declared.Outcome.the-variants.{HandedBack, Output}
 use Rattle.calls.specs.declared.link.Ending.{Ending}
@@ -55,7 +52,7 @@ module _ {t : List ℕ} {i k : ℕ} (h : i < length t) (L : Spans lineBlank t (i
     inside = L .inside;
     order = omega arith;
     lies = L .inside;
-    says = λ u. rw (skip-at t i h, L .rest, seen (sees-char "[" s) e .says, no-text u t k) refl;
+    says = λ u. rw (skip-at t i h, L .rest, sees-the "[" s e .says, no-text u t k) refl;
   }
 
   pub box-text : c ≡ true → {j n : ℕ} {w : Bool} → Spans (notByte 93) t (k + 1) j → Sees (byteIs 93) t j w → Skips t j n → Closes linkBox t i (record { whole = w; at = n; from = k + 1; to = j })
@@ -67,7 +64,7 @@ module _ {t : List ℕ} {i k : ℕ} (h : i < length t) (L : Spans lineBlank t (i
         inside = N .inside;
         order = M .on;
         lies = M .inside;
-        says = λ u. rw (skip-at t i h, L .rest, seen (sees-char "[" s) e .says, skip-at t k (s .there e), M .took, M .rest, sees-char "]" W .says, N .rest) refl;
+        says = λ u. rw (skip-at t i h, L .rest, sees-the "[" s e .says, skip-at t k (s .there e), M .took, M .rest, sees-the "]" W refl .says, N .rest) refl;
       }
 
 -- THE END, behind blanks up to k.
@@ -79,7 +76,7 @@ module _ {t : List ℕ} {i k : ℕ} (L : Spans blank t i k) {c : Bool} (s : Sees
     inside = b .inside;
     order = b .order;
     lies = b .lies;
-    says = λ u. rw (L .rest, seen (sees-char ")" s) e .says) (b .says u);
+    says = λ u. rw (L .rest, sees-the ")" s e .says) (b .says u);
   }
 
   pub end-paren : c ≡ false → {j n : ℕ} {w : Bool} → Spans (notByte 41) t k j → Sees (byteIs 41) t j w → Skips t j n → Closes linkEnd t i (record { whole = w; at = n; from = j; to = j })
@@ -91,17 +88,10 @@ module _ {t : List ℕ} {i k : ℕ} (L : Spans blank t i k) {c : Bool} (s : Sees
         inside = N .inside;
         order = omega arith;
         lies = M .inside;
-        says = λ u. rw (L .rest, seen (sees-char ")" s) e .says, M .rest, sees-char ")" W .says, N .rest, no-text u t j) refl;
+        says = λ u. rw (L .rest, sees-the ")" s e .says, M .rest, sees-the ")" W refl .says, N .rest, no-text u t j) refl;
       }
 
--- THE LINK over its address. A text, and one behind it that was stored first.
-sets-before : (c : List ℕ) (p : ℕ) (h u : List ℕ) → sets (sets c (p + length h) u) p h ≡ sets c p (h ++ u)
-sets-before c p [] u = rw add-zero refl
-sets-before c p (x ∷ hs) u =
-    let e : p + suc (length hs) ≡ suc p + length hs = omega arith in
-    sets-front (sets c (p + suc (length hs)) u) p x hs ∙ ap (λ z. set z p x) (ap (λ z. sets (sets c z u) (suc p) hs) e ∙ sets-before c (suc p) hs u) ∙ sym (sets-front c p x (hs ++ u))
-
--- The address is moved up, and what stands before it is stored.
+-- THE LINK over its address. The address is moved up, and what stands before it is stored.
 put-moved : {c d e : List ℕ} {p q : ℕ} → p ≤ q → q + 7 ≤ length c → d ≡ sets c (p + 7) (drop p (take q c)) → e ≡ sets d p (bytes "#link(\"") → Put (length c) c p (bytes "#link(\"" ++ part c p q) e (q + 7)
 put-moved {c} {d} {e} {p} {q} h k m s =
     let l : length (part c p q) ≡ q - p = length-take-le (q - p) (drop p c) (omega (arith, length-drop p c)) in
@@ -203,7 +193,7 @@ module _ (w : List ℕ) (p : ℕ) (c : List ℕ) (q : ℕ) where
 module _ (look : List ℕ → List ℕ) {t : List ℕ} {at i : ℕ} (L : Spans blank t at i) {c : Bool} (s : Sees (byteIs 60) t i c) {b : List ℕ} {p : ℕ} where
   pub link-back : c ≡ true → Calls (link look (drop at t)) t at b p b (record { outcome = HandedBack; at = i })
   unfolding link Says _>>=_ _>>_ ifR ret
-  link-back e = record { on = L .on; inside = L .inside; size = refl; says = (rw (L .rest, seen (sees-char "<" s) e .says) refl, refl) }
+  link-back e = record { on = L .on; inside = L .inside; size = refl; says = (rw (L .rest, sees-the "<" s e .says) refl, refl) }
 
   pub link-put : c ≡ false → p ≤ length b → {o : List ℕ} {k q : ℕ} → Wrote (length b) (expression look (take (length t - i) (drop i t))) (take (length t - i) (drop i t)) b p o k q →
       {e : Ending} → Closes linkEnd t (i + k) e → {d : List ℕ} {r : ℕ} → Linked (part t (e .from) (e .to)) p o q d r → Calls (link look (drop at t)) t at b p d (record { outcome = Output (e .whole) r; at = e .at })
@@ -220,4 +210,4 @@ module _ (look : List ℕ → List ℕ) {t : List ℕ} {at i : ℕ} (L : Spans b
       }
     where
       reads : Wrote (length b) (expression look (drop i t)) (drop i t) b p o k q → link look (drop at t) ≡ linkEnd (expression look (drop i t) .0) (drop (i + k) t)
-      reads v = unfold link _>>=_ _>>_ ifR in (rw (L .rest, seen (sees-char "<" s) f .says, v .rest, drop-drop k i t) refl)
+      reads v = unfold link _>>=_ _>>_ ifR in (rw (L .rest, sees-the "<" s f .says, v .rest, drop-drop k i t) refl)

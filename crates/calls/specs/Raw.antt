@@ -1,21 +1,22 @@
 -- What a raw call writes, and the ways through it.
 use mathlib.Core.Path.{_≡_, refl, sym, ap, _∙_}
 use mathlib.Core.List.{List, [], _∷_, _++_, append-assoc, append-nil}
-use mathlib.Core.Bool.{Bool, true, false, _&&_, true≢false}
-use Prim.Native.Nat.{ℕ, zero, suc, _+_, _-_, _≤_, _<_, min}
+use mathlib.Core.Bool.{Bool, true, false, _&&_, true≢false, and-false}
+use Prim.Native.Nat.{ℕ, zero, _+_, _-_, _≤_, _<_, min}
 use native.Mathlib.Omega.{arith}
 use native.Mathlib.Decide.{decLe}
-use lib.ListN.{length, take, drop, set, length-append, length-drop, take-append-drop}
-use lib.Seq.{sets, sets-eq, length-sets, length-take-le, take-all, take-set-le, take-append-seam, drop-append-seam, drop-at, take-at}
+use lib.ListN.{length, take, drop, length-append, length-drop, take-append-drop}
+use lib.Seq.{sets, sets-eq, length-sets, length-take-le, take-all, take-append-seam, drop-append-seam, drop-at, take-at}
 use Rattle.rules.specs.Reader.{all, empty, bytes, the, ret, _>>=_, _>>_}
 use Rattle.rules.specs.Bytes.{blank, trimEnd}
 use Rattle.rules.specs.Files.{View}
 use Rattle.rules.specs.Expansion.{Content, rawText, rawEnd, rawArguments, raw, content}
 use Rattle.rules.specs.Laws.Bool.{and-l, and-r, and-i}
 use Rattle.scan.specs.Sets.{Spans, Sees, Skips, byteIs}
-use Rattle.scan.specs.Paths.{TrimsEnd}
+use Rattle.scan.specs.Laws.{not-empty}
+use Rattle.scan.specs.Paths.{TrimsEnd, trimEnd-cons}
 use Rattle.buffers.specs.Put.{spill, after, Put, Writer}
-use Rattle.buffers.specs.Laws.{after-split, put-length, put-fits, put-not, put-then, put-writer, put-ended, sets-append, sets-clipped}
+use Rattle.buffers.specs.Laws.{after-split, put-length, put-fits, put-not, put-then, put-writer, put-ended, sets-append, take-sets, sets-clipped}
 use Rattle.buffers.specs.Emits.{Fill, Fills, put-fill, put-fills, fill-then}
 use Rattle.calls.specs.declared.Outcome.{Outcome}
 use Rattle.calls.specs.declared.Outcome.the-variants.{HandedBack as Back, Refused as No, Output as Out}
@@ -31,29 +32,16 @@ use Rattle.calls.specs.Args.{Argued}
 use Rattle.calls.specs.Content.{toldContent, ToldInside, Contents}
 
 -- TRIMMING. Blanks behind a text are trimmed with it; behind anything else the text before stays whole.
-trim-cons : (x : ℕ) (xs : List ℕ) (c : Bool) → (blank x && empty (trimEnd xs)) ≡ c → trimEnd (x ∷ xs) ≡ elim c [ true ↦ [] | false ↦ x ∷ trimEnd xs ]
-unfolding trimEnd
-trim-cons x xs c q = rw (q, trimEnd)
-
 trim-blank : (b : List ℕ) → all blank b ≡ true → trimEnd b ≡ []
 unfolding all empty
 trim-blank [] h = unfold trimEnd in refl
-trim-blank (x ∷ xs) h = trim-cons x xs true (and-i (blank x) (empty (trimEnd xs)) (and-l (blank x) (all blank xs) h) (ap empty (trim-blank xs (and-r (blank x) (all blank xs) h))))
+trim-blank (x ∷ xs) h = trimEnd-cons x xs true (and-i (blank x) (empty (trimEnd xs)) (and-l (blank x) (all blank xs) h) (ap empty (trim-blank xs (and-r (blank x) (all blank xs) h))))
 
 trim-append : (a b : List ℕ) → all blank b ≡ true → trimEnd (a ++ b) ≡ trimEnd a
 trim-append [] b h = trim-blank b h ∙ (unfold trimEnd in refl)
 trim-append (x ∷ xs) b h =
     let e = trim-append xs b h in
-    trim-cons x (xs ++ b) (blank x && empty (trimEnd xs)) (ap (λ z. blank x && empty z) e) ∙ ap (λ z. elim (blank x && empty (trimEnd xs)) [ true ↦ [] | false ↦ x ∷ z ]) e ∙ sym (trim-cons x xs (blank x && empty (trimEnd xs)) refl)
-
-empty-some : (u : List ℕ) → 0 < length u → empty u ≡ false
-unfolding empty
-empty-some [] h = absurd (omega arith)
-empty-some (x ∷ xs) h = refl
-
-and-none : (a : Bool) {b : Bool} → b ≡ false → (a && b) ≡ false
-and-none true e = e
-and-none false e = refl
+    trimEnd-cons x (xs ++ b) (blank x && empty (trimEnd xs)) (ap (λ z. blank x && empty z) e) ∙ ap (λ z. elim (blank x && empty (trimEnd xs)) [ true ↦ [] | false ↦ x ∷ z ]) e ∙ sym (trimEnd-cons x xs (blank x && empty (trimEnd xs)) refl)
 
 -- Something is left.
 trim-some : (b : List ℕ) → all blank b ≡ false → 0 < length (trimEnd b)
@@ -62,19 +50,15 @@ trim-some [] h = absurd (true≢false h)
 trim-some (x ∷ xs) h = at (blank x) (all blank xs) refl refl (trim-some xs)
   where
     at : (c d : Bool) → blank x ≡ c → all blank xs ≡ d → (all blank xs ≡ false → 0 < length (trimEnd xs)) → 0 < length (trimEnd (x ∷ xs))
-    at false d p q ih = omega (arith, ap length (trim-cons x xs false (rw p refl)))
-    at true false p q ih = omega (arith, ap length (trim-cons x xs false (and-none (blank x) (empty-some (trimEnd xs) (ih q)))))
+    at false d p q ih = omega (arith, ap length (trimEnd-cons x xs false (rw p refl)))
+    at true false p q ih = omega (arith, ap length (trimEnd-cons x xs false (rw (not-empty (trimEnd xs) (λ z. absurd (omega (arith, ih q))), and-false) refl)))
     at true true p q ih = absurd (true≢false (sym (and-i (blank x) (all blank xs) p q) ∙ h))
 
 trim-length : (a b : List ℕ) → 0 < length (trimEnd b) → length a < length (trimEnd (a ++ b))
 trim-length [] b h = h
-trim-length (x ∷ xs) b h = let i = trim-length xs b h in omega (arith, ap length (trim-cons x (xs ++ b) false (and-none (blank x) (empty-some (trimEnd (xs ++ b)) (omega arith)))))
+trim-length (x ∷ xs) b h = let i = trim-length xs b h in omega (arith, ap length (trimEnd-cons x (xs ++ b) false (rw (not-empty (trimEnd (xs ++ b)) (λ z. absurd (omega arith)), and-false) refl)))
 
 -- A START of a text that is stored: nothing before its end is another byte.
-take-sets : (l : List ℕ) (i : ℕ) (w : List ℕ) (k : ℕ) → k ≤ i → take k (sets l i w) ≡ take k l
-take-sets l i [] k h = refl
-take-sets l i (x ∷ xs) k h = take-sets (set l i x) (suc i) xs k (omega arith) ∙ take-set-le k l i x h
-
 fill-start : {o : List ℕ} {p : ℕ} (v : List ℕ) {c : List ℕ} (n : ℕ) → c ≡ sets o p v → n ≤ length v → Fill o p (take n v) c (p + n)
 fill-start {o} {p} v {c} n e h =
     let l : length (take n v) ≡ n = length-take-le n v h in

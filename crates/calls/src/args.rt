@@ -3,17 +3,9 @@ ghost use mathlib.Core.Path.{_≡_};
 ghost use mathlib.Core.List.{List};
 ghost use Prim.Native.Nat.{ℕ, _≤_};
 ghost use lib.ListN.{length};
-ghost use Rattle.rules.specs.Reader.{same};
 ghost use Rattle.calls.specs.Args.{Speaks, Sets, Argued};
 use crate::values::Value;
 use crate::values::literal_end;
-
-// Are two texts the same?
-pub fn same(p: &[u8], q: &[u8]) -> bool
-    ensures { λ r. ⌜ r ≡ same (now (p .entry)) (now (q .entry)) ⌝ }
-{
-    (p.len() == q.len()) & scan::starts_with(q, 0, p)
-}
 
 // A language, and where reading goes on.
 pub struct Lang {
@@ -54,14 +46,14 @@ fn argument(text: &[u8], at: usize) -> Setting
 {
     let end = scan::span(text, at, scan::Set::Word);
     let from = scan::span(text, end, scan::Set::ColonOrBlank);
-    if same(&text[at..end], b"lang") {
+    if scan::same(&text[at..end], b"lang") {
         let l = language(text, from);
         let value = l.value;
         return Setting::Language { value, next: l.at };
     }
-    if same(&text[at..end], b"block") {
+    if scan::same(&text[at..end], b"block") {
         let to = scan::span(text, from, scan::Set::Letter);
-        let on = same(&text[from..to], b"true");
+        let on = scan::same(&text[from..to], b"true");
         return Setting::Block { on, next: to };
     }
     Setting::Nothing { next: from }

@@ -1,7 +1,6 @@
 // The link call: an address, and a text in a box behind it.
 use crate::Called;
 use crate::Outcome;
-use crate::args::same;
 use scan::Set;
 ghost use Prim.Native.Nat.{_+_, _≤_, _<_};
 ghost use lib.ListN.{length, drop};
@@ -92,7 +91,7 @@ fn put_link(text: &[u8], out: &mut [u8], p: usize, q: usize) -> usize
     if room < q {
         return q;
     }
-    if same(text, &out[p..q]) {
+    if scan::same(text, &out[p..q]) {
         return q;
     }
     if room - q < 7 {

@@ -1,22 +1,19 @@
 -- The steps `#raw` and `#link`.
 use mathlib.Core.Path.{_≡_, refl, sym, ap, subst, _∙_}
-use mathlib.Core.List.{List, [], _∷_, _++_}
-use mathlib.Core.Bool.{Bool, true, false, not, true≢false}
-use Prim.Native.Nat.{ℕ, _+_, _-_, _≤_, _<_}
+use mathlib.Core.List.{List, _++_}
+use mathlib.Core.Bool.{Bool, true, false, true≢false}
+use Prim.Native.Nat.{ℕ, _+_, _-_, _≤_}
 use native.Mathlib.Omega.{arith}
-use native.Mathlib.Decide.{decLe}
-use lib.Dec.{leb, ltb, eqb}
-use lib.ListN.{length, take, drop, drop-of-length-le}
-use lib.Seq.{drop-cons, drop-drop, take-append-add}
-use borrow.Author.Tests.{lt-ltb, le-ltb}
-use Rattle.rules.specs.Reader.{Reader, empty, the, prefix, skip, ret, ifR, _>>=_, _>>_}
+use lib.Dec.{leb, ltb}
+use lib.ListN.{length, take, drop}
+use lib.Seq.{drop-drop, take-append-add}
+use Rattle.rules.specs.Reader.{Reader, prefix, skip, ret, ifR, _>>=_, _>>_}
 use Rattle.rules.specs.Bytes.{lineBlank}
-use Rattle.rules.specs.Laws.Bool.{and-l, and-r, true-eqb}
 use Rattle.rules.specs.Run.{Emit, ok, put, fail, Did, write}
 use Rattle.rules.specs.Sheet.{Records}
 use Rattle.rules.specs.Expansion.{Call, handsBack, refuses, outputs, callDid, calling, callStep, writes}
 use Rattle.scan.specs.Sets.{part, Spans, Sees, Starts, byteIs}
-use Rattle.scan.specs.Laws.{skips-at}
+use Rattle.scan.specs.Laws.{sees-the, not-end, skips-at, prefix-split}
 use Rattle.sheet.specs.Find.{IsSheet}
 use Rattle.buffers.specs.Put.{Put}
 use Rattle.buffers.specs.Emits.{Emits, emits-put, emits-fills, emits-fail}
@@ -45,22 +42,9 @@ pub record Ends (full : ℕ) (k : Called) (t : List ℕ) (at e : ℕ) (o : List 
   pub inside : k .at ≤ length t → r .at ≤ length t
   pub does : (s : Records) (x : Call × List ℕ) (b : List ℕ) → length b ≡ length o → p ≤ length b → Says x t b p o (k .outcome) (k .at) → Does full (callDid s (part t at e) (x .0) (x .1) (drop e t)) s t b p c r
 
--- What the scan of the byte `(` says.
-sees-paren : {t : List ℕ} {i : ℕ} {r c : Bool} → Sees (byteIs 40) t i r → r ≡ c → Sees (the "(") t i c
-unfolding the
-sees-paren s e = rw e at s
-
 -- LAWS. A text that is output.
 pub shows : {full : ℕ} {v b c : List ℕ} {p q e : ℕ} {w : Bool} → p ≤ length b → Put (length b) b p v c q → Shows full v e w b p c (record { ok = leb q (length b); number = full; whole = w; at = e; next = q })
 shows {full} h s = record { emits = emits-put {full = full} h s; at = refl; wholes = refl }
-
-not-end : (t : List ℕ) (i : ℕ) → not (empty (drop i t)) ≡ ltb i (length t)
-unfolding empty
-not-end t i = go (decLe (length t) i)
-  where
-    go : Dec (length t ≤ i) → not (empty (drop i t)) ≡ ltb i (length t)
-    go (yes h) = rw (drop-of-length-le t h, le-ltb i (length t) h) refl
-    go (no h) = let z : i < length t = omega arith in rw (drop-cons t i 0 z, lt-ltb i (length t) z) refl
 
 -- The ways through the end of a call.
 module _ (full : ℕ) (k : Called) (t : List ℕ) (at e : ℕ) (o : List ℕ) (p : ℕ) where
@@ -123,14 +107,6 @@ pub record StepsBy (full : ℕ) (f : Records → Reader (Did Records)) (t : List
   pub does : (s : IsSheet z) → Does full (f (s .r) (drop i t)) (s .r) t b p c r
 
 -- A mark and what stands behind it.
-prefix-split : (m u : List ℕ) → prefix m u ≡ true → u ≡ m ++ drop (length m) u
-unfolding prefix
-prefix-split [] u h = refl
-prefix-split (x ∷ m) [] h = absurd (true≢false (sym h))
-prefix-split (x ∷ m) (y ∷ ys) h =
-    let e : x ≡ y = true-eqb x y (and-l (eqb x y) (prefix m ys) h) in
-    λ j. sym e j ∷ prefix-split m ys (and-r (eqb x y) (prefix m ys) h) j
-
 mark-part : (m t : List ℕ) (at i : ℕ) → prefix m (drop at t) ≡ true → at + length m ≤ i → part t at i ≡ m ++ part t (at + length m) i
 mark-part m t at i h k =
     let n = i - (at + length m) in
@@ -144,7 +120,7 @@ module _ {full : ℕ} (m : List ℕ) (call : Records → Reader Call) {t : List 
   step-plain e w = record { size = w .emits .size; on = omega (arith, L .on, w .at); inside = omega (arith, L .inside, w .at); does = λ s. does (s .r) }
     where
       reads : (s : Records) → callStep m (call s) s (drop (at + length m) t) ≡ (writes s (part t at i), drop i t)
-      reads s = rw (L .rest, sees-paren q e .says, L .took, sym (mark-part m t at i (M .says) (L .on))) refl
+      reads s = rw (L .rest, sees-the "(" q e .says, L .took, sym (mark-part m t at i (M .says) (L .on))) refl
 
       does : (s : Records) → Does full (callStep m (call s) s (drop (at + length m) t)) s t b p c r
       does s = subst (λ x. Does full x s t b p c r) (sym (reads s)) (record { emits = w .emits; state = refl; rest = λ y. ap (λ x. drop x t) (sym (w .at)); wholes = λ y. sym (w .wholes) })
@@ -159,7 +135,7 @@ module _ {full : ℕ} (m : List ℕ) (call : Records → Reader Call) {t : List 
   }
     where
       at-paren : (s : Records) → callStep m (call s) s (drop (at + length m) t) ≡ callDid s (part t at i) (call s (skip (drop i t) .1) .0) (call s (skip (drop i t) .1) .1) (drop i t)
-      at-paren s = rw (L .rest, sees-paren q e .says, L .took, sym (mark-part m t at i (M .says) (L .on))) refl
+      at-paren s = rw (L .rest, sees-the "(" q e .says, L .took, sym (mark-part m t at i (M .says) (L .on))) refl
 
       reads : (s : Records) → callStep m (call s) s (drop (at + length m) t) ≡ callDid s (part t at i) (call s (drop (i + 1) t) .0) (call s (drop (i + 1) t) .1) (drop i t)
       reads s = at-paren s ∙ ap (λ u. callDid s (part t at i) (call s u .0) (call s u .1) (drop i t)) (skips-at t i (q .there e) .rest)

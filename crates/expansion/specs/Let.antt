@@ -1,19 +1,19 @@
 -- `#import` and `#let`: the lines that bind.
 use mathlib.Core.Path.{_≡_, refl, sym, ap, _∙_}
 use mathlib.Core.List.{List}
-use mathlib.Core.Bool.{Bool, true, false, true≢false}
+use mathlib.Core.Bool.{true, false, true≢false}
 use mathlib.Core.Option.{Option, none, some}
 use Prim.Native.Nat.{ℕ, _-_, _≤_, _<_}
 use native.Mathlib.Omega.{arith}
-use lib.ListN.{length, take, drop, take-append-drop}
+use lib.ListN.{length, take, drop}
 use Rattle.rules.specs.Reader.{ret, _>>=_, _>>_, but, either, all}
 use Rattle.rules.specs.Bytes.{ascii, lineBlank, word, nameByte, underscored}
 use Rattle.rules.specs.Sheet.{Value, text, nothing, dictionary, Records, encode, sheetLength, goodValue, goodRecords, resolve, set}
 use Rattle.rules.specs.Expansion.{binds, importStep, letValue, letStep}
 use Rattle.rules.specs.Laws.Sheet.{resolve-good, set-good}
-use Rattle.rules.specs.Laws.Texts.{all-left, all-right, underscored-words}
+use Rattle.rules.specs.Laws.Texts.{underscored-words}
 use Rattle.scan.specs.Sets.{part, Spans, Skips}
-use Rattle.scan.specs.Stretches.{span-took}
+use Rattle.scan.specs.Stretches.{span-took, all-part}
 use Rattle.scan.specs.Paths.{Trims}
 use Rattle.scan.specs.declared.paths.Range.{Range}
 use Rattle.sheet.specs.Order.{asked}
@@ -124,13 +124,7 @@ module _ (b : List ℕ) (n : ℕ) (v : List ℕ) (f : Found) (told : (r : Record
       binds = λ s. let g = found-there (take n b) (resolve (s .r) v) f (gives-line s) h in rw (g .1) (w (g .0) (g .2));
     }
 
--- THE STEP.
-all-part : (q : ℕ → Bool) (a e : ℕ) (t : List ℕ) → all q t ≡ true → all q (part t a e) ≡ true
-all-part q a e t h =
-    let d : all q (drop a t) ≡ true = all-right q (take a t) (drop a t) (ap (all q) (take-append-drop a t) ∙ h) in
-    all-left q (part t a e) (drop (e - a) (drop a t)) (ap (all q) (take-append-drop (e - a) (drop a t)) ∙ d)
-
--- What a `#let` binds is good.
+-- THE STEP. What a `#let` binds is good.
 good-line : (s : Records) (v : List ℕ) (x : Option Value) → resolve s v ≡ x → goodRecords s word 6 ≡ true → all ascii v ≡ true → goodValue (letValue v x) 6 ≡ true
 unfolding letValue goodValue
 good-line s v none e g a = a

@@ -1,18 +1,18 @@
 -- Bytes that lie ahead: what is known of them, and the next two quotes.
 use mathlib.Core.Path.{_≡_, refl, sym, ap, _∙_}
 use mathlib.Core.List.{List, [], _∷_, _++_}
-use mathlib.Core.Bool.{Bool, true, false, not, _&&_, true≢false}
-use Prim.Native.Char.{Char, code}
+use mathlib.Core.Bool.{Bool, true, false, _&&_, true≢false}
+use Prim.Native.Char.{Char}
 use Prim.Native.Nat.{ℕ, zero, suc, _+_, _-_, _≤_, _<_}
 use native.Mathlib.Omega.{arith}
-use lib.Dec.{leb, eqb}
+use lib.Dec.{leb}
 use lib.ListN.{length, take, drop, getD}
 use borrow.Author.Tests.{leb-true}
 use Rattle.rules.specs.Reader.{span, sees, skip, the, but, _>>=_, _>>_, ret}
 use Rattle.rules.specs.Includes.{Quoted, unquoted, quoted, quotedIf, quote}
 use Rattle.rules.specs.Laws.Bool.{and-l, and-r}
 use Rattle.scan.specs.Sets.{part, Spans, Skips, Sees, notByte, byteIs}
-use Rattle.scan.specs.Laws.{sees-is, sees-end, skips-at}
+use Rattle.scan.specs.Laws.{but-no, sees-is, sees-end, skips-at}
 use Rattle.scan.specs.Stretches.{spans-later, spans-stop}
 use Rattle.includes.specs.declared.ahead.Ahead.{Ahead}
 use Rattle.includes.specs.declared.ahead.Known.{Known}
@@ -59,12 +59,7 @@ module _ {p : ℕ → Bool} {t : List ℕ} where
 -- QUOTES.
 -- The byte at the end of a stretch without it.
 pub sees-stop : (c : Char) {t : List ℕ} {i j : ℕ} → Spans (but c) t i j → j < length t → Sees (the c) t j true
-unfolding but the
-sees-stop c {t} {i} {j} s h = sees-is (the c) t j h (sym (at (eqb (getD t j 0) (code c)) (spans-stop s h)))
-  where
-    at : (x : Bool) → not x ≡ false → x ≡ true
-    at true z = refl
-    at false z = absurd (true≢false z)
+sees-stop c {t} {i} {j} s h = sees-is (the c) t j h (sym (but-no c (getD t j 0) (spans-stop s h)))
 
 pub sees-none : (c : Char) {t : List ℕ} {j : ℕ} → length t ≤ j → Sees (the c) t j false
 sees-none c {t} {j} h = sees-end (the c) t j h

@@ -16,6 +16,7 @@ use Rattle.rules.specs.Files.{View, fetch, opened, plain}
 use Rattle.rules.specs.Includes.{lastNewline, fenced, included, insideFile, includeStep}
 use Rattle.buffers.specs.Put.{Put, Writer}
 use Rattle.buffers.specs.Laws.{put-length, put-writer, put-then}
+use Rattle.scan.specs.Laws.{not-empty}
 use Rattle.scan.specs.Paths.{Joins, Parent}
 use Rattle.scan.specs.declared.paths.Joined.{Joined}
 use Rattle.bundle.specs.Open.{Opens, answerOf, long-fetch, long-opened}
@@ -85,11 +86,6 @@ pub close-empty : (c : List ℕ) → length c ≡ 0 → bytes "\n```\n" ≡ last
 unfolding lastNewline endsInNewline empty
 close-empty [] h = refl
 close-empty (x ∷ xs) h = absurd (omega arith)
-
-not-empty : (c : List ℕ) → (length c ≡ 0 → ⊥) → empty c ≡ false
-unfolding empty
-not-empty [] h = absurd (h refl)
-not-empty (x ∷ xs) h = refl
 
 pub close-other : (c : List ℕ) → (length c ≡ 0 → ⊥) → (getD c (length c - 1) 0 ≡ 10 → ⊥) → bytes "\n```\n" ≡ lastNewline c ++ bytes "```\n"
 unfolding lastNewline

@@ -19,7 +19,7 @@ use Rattle.rules.specs.Includes.{includeStep, copyByte, commented}
 use Rattle.rules.specs.Laws.Bool.{and-l, and-r, and-i}
 use Rattle.rules.specs.Laws.Enough.{run-step}
 use Rattle.scan.specs.Sets.{Spans, Starts, notByte}
-use Rattle.scan.specs.Laws.{mark-of}
+use Rattle.scan.specs.Laws.{but-yes, mark-of}
 use Rattle.scan.specs.Stretches.{spans-each}
 use Rattle.buffers.specs.Emits.{write-none, write-same, write-join}
 
@@ -171,19 +171,11 @@ unfolding stretch
 stretch-append h [] b = refl
 stretch-append h (x ∷ xs) b = stretch-append (elim (the "\n" x) [ true ↦ [] | false ↦ h ++ (x ∷ []) ]) xs b
 
-not-newline : (x : ℕ) → but "\n" x ≡ true → the "\n" x ≡ false
-unfolding but the
-not-newline x h = at (eqb x 10) h
-  where
-    at : (c : Bool) → not c ≡ true → c ≡ false
-    at true z = absurd (true≢false (sym z))
-    at false z = refl
-
 stretch-line : (h b : List ℕ) → all (but "\n") b ≡ true → stretch h b ≡ h ++ b
 unfolding stretch all
 stretch-line h [] e = sym (append-nil h)
 stretch-line h (x ∷ xs) e =
-    rw (not-newline x (and-l (but "\n" x) (all (but "\n") xs) e), stretch) (stretch-line (h ++ (x ∷ [])) xs (and-r (but "\n" x) (all (but "\n") xs) e) ∙ append-assoc h (x ∷ []) xs)
+    rw (but-yes "\n" x (and-l (but "\n" x) (all (but "\n") xs) e), stretch) (stretch-line (h ++ (x ∷ [])) xs (and-r (but "\n" x) (all (but "\n") xs) e) ∙ append-assoc h (x ∷ []) xs)
 
 stretch-newline : (h b : List ℕ) (x : ℕ) → x ≡ 10 → stretch h (x ∷ b) ≡ stretch [] b
 unfolding stretch the

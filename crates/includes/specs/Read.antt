@@ -1,25 +1,23 @@
 -- What stands at a mark: the step of the rules, read and not yet done.
 use mathlib.Core.Path.{_≡_, refl, sym, ap, _∙_}
-use mathlib.Core.List.{List, [], _∷_, _++_}
-use mathlib.Core.Bool.{Bool, true, false, not, _&&_, true≢false}
+use mathlib.Core.List.{List, [], _++_}
+use mathlib.Core.Bool.{Bool, true, false, not, _&&_}
 use Prim.Native.Nat.{ℕ, zero, suc, _+_, _-_, _≤_, _<_}
 use native.Mathlib.Omega.{arith}
-use native.Mathlib.Decide.{decLe}
 use native.Mathlib.Numerals.{add-one}
 use lib.Dec.{ltb, eqb}
-use lib.ListN.{length, take, drop, length-drop, drop-of-length-le}
+use lib.ListN.{length, drop, drop-of-length-le}
 use lib.Seq.{drop-drop, drop-cons}
-use borrow.Author.Tests.{lt-ltb, le-ltb, eqb-true, eqb-false}
+use borrow.Author.Tests.{eqb-true, eqb-false}
 use Rattle.rules.specs.Reader.{Reader, bytes, the, but, empty, prefix, span, sees, skip, mark, ret, ifR, _>>=_, _>>_}
 use Rattle.rules.specs.Run.{Emit, ok, put, fail, Did}
 use Rattle.rules.specs.Bytes.{blank, trim, join}
 use Rattle.rules.specs.Files.{View, fetch, opened, projectRoot}
 use Rattle.rules.specs.Includes.{Quoted, unquoted, quoted, quotedIf, quote, Source, noParen, noPath, noLanguage, source, withLanguage, withPath, sourceArguments, overParen, toNewline, behindSource, fenced, wrote, copied, commented, included, includeOf, includeMark, sourceText, sourceOf, sourceMark, includeStep}
-use Rattle.scan.specs.Sets.{Spans, Skips, Sees, Starts, notByte, byteIs}
-use Rattle.scan.specs.Laws.{skips-at, mark-of}
+use Rattle.scan.specs.Sets.{part, Spans, Skips, Sees, Starts, Stands, notByte}
+use Rattle.scan.specs.Laws.{not-end, skips-at, mark-of, stands}
 use Rattle.scan.specs.Paths.{Trims}
 use Rattle.scan.specs.declared.paths.Range.{Range}
-use Rattle.rules.specs.Laws.Bool.{and-l, and-r, true-eqb}
 use Rattle.includes.specs.declared.ahead.Ahead.{Ahead}
 use Rattle.includes.specs.declared.ahead.Known.{Known}
 use Rattle.includes.specs.declared.ahead.Pair.{Pair}
@@ -27,7 +25,6 @@ use Rattle.includes.specs.declared.read.Reading.{Reading}
 use Rattle.includes.specs.declared.read.Reading.the-variants.{Copied, Include, Source as Shown}
 use Rattle.includes.specs.declared.read.Read.{Read}
 use Rattle.includes.specs.declared.read.Behind.{Behind}
-use Rattle.scan.specs.Sets.{part}
 use Rattle.includes.specs.Ahead.{Knows, KnowsAll, Quotes, knows-new, sees-stop, sees-none}
 use Rattle.scan.specs.Stretches.{spans-but}
 use Rattle.includes.specs.Marks.{markLength, stretch}
@@ -51,12 +48,6 @@ pub record Reads (m : View → (List ℕ → List ℕ → Emit) → List ℕ →
   pub parts : Within t (r .what)
   pub does : (v : View) (f : List ℕ → List ℕ → Emit) (g : List ℕ) → m v f g (drop i t) ≡ (wrote (r .whole) (emitOf v f g t (r .what)), drop (r .next) t)
   pub knows : KnowsAll t (r .known)
-
--- A mark stands at a place; `behind` is the place behind it.
-pub record Stands (m t : List ℕ) (at behind : ℕ) : Type 0 where
-  pub on : at ≤ behind
-  pub inside : behind ≤ length t
-  pub text : part t at behind ≡ m
 
 abbrev pub copiedRead : ℕ → ℕ → Bool → Known → Read
 copiedRead a b w k = record { what = Copied a b; whole = w; next = b; known = k }
@@ -146,21 +137,8 @@ module _ {t : List ℕ} {at paren from to : ℕ} (x : Spans (but ")") t at paren
         knows = l;
       }
 
--- What the scan of the byte `(` says.
-pub sees-paren : {t : List ℕ} {i : ℕ} {r c : Bool} → Sees (byteIs 40) t i r → r ≡ c → Sees (the "(") t i c
-unfolding the
-sees-paren s e = rw e at s
-
 -- `#source-include`.
 module _ {t : List ℕ} {at behind : ℕ} (st : Stands (bytes "#source-include") t at behind) {k : Known} (n : KnowsAll t k) {i : ℕ} (b : Spans blank t behind i) where
-  not-end : not (empty (drop i t)) ≡ ltb i (length t)
-  unfolding empty
-  not-end = go (decLe (length t) i)
-    where
-      go : Dec (length t ≤ i) → not (empty (drop i t)) ≡ ltb i (length t)
-      go (yes h) = rw (drop-of-length-le t h, le-ltb i (length t) h) refl
-      go (no h) = let z : i < length t = omega arith in rw (drop-cons t i 0 z, lt-ltb i (length t) z) refl
-
   pub source-plain : Sees (the "(") t i false → Reads sourceMark t behind behind (copiedRead at behind (ltb i (length t)) k)
   unfolding emitOf Within sourceArguments _>>=_ _>>_ ifR ret sourceMark sourceOf withPath quotedIf
   source-plain s = record {
@@ -175,7 +153,7 @@ module _ {t : List ℕ} {at behind : ℕ} (st : Stands (bytes "#source-include")
       arguments = rw (b .rest, s .says) refl
 
       does : (v : View) (f : List ℕ → List ℕ → Emit) (g : List ℕ) → sourceMark v f g (drop behind t) ≡ (wrote (ltb i (length t)) (put (part t at behind) ok), drop behind t)
-      does v f g = rw (arguments, st .text, not-end) refl
+      does v f g = rw (arguments, st .text, not-end t i) refl
 
   module _ (s : Sees (the "(") t i true) {q : Pair} (u : Quotes t (i + 1) q) where
     arguments-at : sourceArguments (drop behind t) ≡ withPath (quote (drop (i + 1) t) .0) (quote (drop (i + 1) t) .1)
@@ -242,21 +220,6 @@ module _ (u : List ℕ) {n : ℕ} (e : n ≡ markLength u) where
       at true b p q = let z : n ≡ 8 = e ∙ rw (p, markLength) refl in absurd (h z)
       at false true p q = (p, q, e ∙ rw (p, q, markLength) refl)
       at false false p q = let z : n ≡ 0 = e ∙ rw (p, q, markLength) refl in absurd (omega arith)
-
-prefix-stands : (m u : List ℕ) → prefix m u ≡ true → (length m ≤ length u) × (take (length m) u ≡ m)
-unfolding prefix
-prefix-stands [] u h = (omega arith, refl)
-prefix-stands (c ∷ m) [] h = absurd (true≢false (sym h))
-prefix-stands (c ∷ m) (x ∷ xs) h =
-    let i = prefix-stands m xs (and-r (eqb c x) (prefix m xs) h) in
-    let z : c ≡ x = true-eqb c x (and-l (eqb c x) (prefix m xs) h) in
-    (omega (arith, i .0), (λ j. sym z j ∷ i .1 j))
-
-pub stands : (m t : List ℕ) (at : ℕ) → at ≤ length t → prefix m (drop at t) ≡ true → Stands m t at (at + length m)
-stands m t at l h =
-    let p = prefix-stands m (drop at t) h in
-    let z : at + length m - at ≡ length m = omega arith in
-    record { on = omega arith; inside = omega (arith, p .0, length-drop at t); text = rw z (p .1) }
 
 pub mark-inside : (t : List ℕ) (at n : ℕ) → at ≤ length t → n ≡ markLength (drop at t) → 0 < n → at + n ≤ length t
 mark-inside t at n l e z = go (eqb n 8) refl

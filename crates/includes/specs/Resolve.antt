@@ -1,20 +1,20 @@
 -- The resolver: its loop over the marks of a text, and what is done at a mark.
 use mathlib.Core.Path.{_≡_, refl, sym, ap, _∙_}
 use mathlib.Core.List.{List, [], _∷_, _++_}
-use mathlib.Core.Bool.{Bool, true, false, _&&_, true≢false}
+use mathlib.Core.Bool.{Bool, true, false, _&&_, true≢false, and-true}
 use Prim.Native.Nat.{ℕ, zero, suc, _+_, _-_, _≤_, _<_}
 use native.Mathlib.Omega.{arith}
 use lib.Dec.{leb}
 use borrow.Author.Tests.{le-leb, lt-leb}
 use lib.ListN.{length, take, drop, drop-of-length-le}
-use Rattle.rules.specs.Answer.{Answer, refused, accepted}
+use Rattle.rules.specs.Answer.{Answer, refused}
 use Rattle.rules.specs.Reader.{bytes}
-use Rattle.rules.specs.Run.{Emit, ok, put, fail, andThen, unrefused, Trace, step, run, emitted, allWhole, write}
+use Rattle.rules.specs.Run.{Emit, ok, put, andThen, unrefused, Trace, step, run, emitted, allWhole, write}
 use Rattle.rules.specs.Bytes.{join}
 use Rattle.rules.specs.Files.{View, fetch, opened, projectRoot}
 use Rattle.rules.specs.Includes.{fenced, included, insideFile, includeStep, wrote}
-use Rattle.rules.specs.Laws.Answer.{not-both}
-use Rattle.rules.specs.Laws.Limit.{write-inv}
+use Rattle.rules.specs.Laws.Bool.{and-three}
+use Rattle.rules.specs.Laws.Limit.{written-unrefused}
 use Rattle.rules.specs.Laws.Enough.{run-at}
 use Rattle.buffers.specs.Put.{Put}
 use Rattle.buffers.specs.Laws.{put-length}
@@ -34,22 +34,6 @@ use Rattle.includes.specs.Files.{OpensFile, EndsLine, emits-line}
 pub record Resolves (full room : ℕ) (t : Trace (List ℕ)) (b : List ℕ) (p : ℕ) (c : List ℕ) (fine : Bool) (number q : ℕ) (w : Bool) : Type 0 where
   pub emits : Emits full room (emitted t) b p c fine number q
   pub wholes : fine ≡ true → allWhole t ≡ w
-
--- What was written was not refused.
-written-unrefused : (full : ℕ) (e : Emit) (r : ℕ) {o : List ℕ} → write full r e ≡ accepted o → unrefused e ≡ true
-unfolding unrefused write
-written-unrefused full ok r h = refl
-written-unrefused full (put v e) r h = written-unrefused full e (r - length v) (write-inv full r v e h .write-later)
-written-unrefused full (fail k) r h = absurd (not-both h)
-
-and-true : (a : Bool) → (a && true) ≡ a
-and-true true = refl
-and-true false = refl
-
-and-three : (a b c : Bool) → (a && (b && true && c)) ≡ (a && b && c)
-and-three true true c = refl
-and-three true false c = refl
-and-three false b c = refl
 
 -- THE LOOP. v: the bundle; f: how an included file is resolved; g: the folder; t: the text, resolved up to i.
 module _ (v : View) (f : List ℕ → List ℕ → Emit) (g t : List ℕ) where

@@ -13,11 +13,10 @@ ghost use Prim.Native.Nat.{_+_, _≤_, _<_};
 ghost use lib.ListN.{length, drop};
 ghost use Rattle.rules.specs.Reader.{bytes};
 ghost use Rattle.rules.specs.Includes.{includeMark, sourceMark, includeStep};
-ghost use Rattle.scan.specs.Sets.{notByte};
-ghost use Rattle.scan.specs.Sets.{part};
+ghost use Rattle.scan.specs.Sets.{notByte, part, Stands};
 ghost use Rattle.includes.specs.Ahead.{Knows, KnowsAll, Quotes};
 ghost use Rattle.includes.specs.Marks.{markLength, stretch};
-ghost use Rattle.includes.specs.Read.{copiedRead, knownPair, Stands, Reads, Behinds, HasPath};
+ghost use Rattle.includes.specs.Read.{copiedRead, knownPair, Reads, Behinds, HasPath};
 
 // A part of the text is copied; a file is included, its path trimmed; a source is shown, its path trimmed, with its language.
 pub enum Reading {

@@ -14,6 +14,7 @@ pub mod Pass
 pub mod Numbers
 pub mod Refusals
 pub mod Once
+pub mod Layout
 pub mod Sheet
 pub mod Values
 pub mod Definitions

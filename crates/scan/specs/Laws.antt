@@ -1,18 +1,20 @@
 -- Scanning at a place of a text.
 use mathlib.Core.Path.{_≡_, refl, sym, ap, _∙_}
 use mathlib.Core.List.{List, [], _∷_, _++_, append-assoc, append-nil}
-use mathlib.Core.Bool.{Bool, true, false, true≢false, _&&_}
+use mathlib.Core.Bool.{Bool, true, false, not, true≢false, false≢true, _&&_}
+use Prim.Native.Char.{Char, code}
 use Prim.Native.Nat.{ℕ, zero, suc, _+_, _-_, _≤_, _<_}
 use native.Mathlib.Numerals.{add-one}
 use native.Mathlib.Nat.{add-zero}
 use native.Mathlib.Omega.{arith}
-use lib.Dec.{eqb}
-use lib.ListN.{length, take, drop, getD, drop-of-length-le, length-drop}
-use lib.Seq.{drop-cons, drop-drop, take-add}
-use borrow.Author.Tests.{eq-eqb, ne-eqb, eqb-true, eqb-false}
-use Rattle.rules.specs.Reader.{Reader, all, span, sees, skip, prefix, mark}
+use native.Mathlib.Decide.{decLe}
+use lib.Dec.{ltb, eqb}
+use lib.ListN.{length, take, drop, getD, drop-of-length-le, length-append, length-drop}
+use lib.Seq.{drop-cons, drop-drop, take-add, take-append-seam}
+use borrow.Author.Tests.{lt-ltb, le-ltb, eq-eqb, ne-eqb, eqb-true, eqb-false, not-true as negated-true, not-false as negated-false}
+use Rattle.rules.specs.Reader.{Reader, the, but, all, empty, span, sees, skip, prefix, same, mark}
 use Rattle.rules.specs.Laws.Bool.{and-l, and-r, and-i, not-true}
-use Rattle.scan.specs.Sets.{Spans, Sees, Starts, Skips}
+use Rattle.scan.specs.Sets.{byteIs, part, Spans, Sees, Starts, Stands, Skips}
 
 module _ (p : ℕ → Bool) (t : List ℕ) (i : ℕ) where
   pub sees-at : i < length t → sees p (drop i t) ≡ (p (getD t i 0), drop i t)
@@ -25,6 +27,42 @@ module _ (p : ℕ → Bool) (t : List ℕ) (i : ℕ) where
   pub sees-end : length t ≤ i → Sees p t i false
   unfolding sees
   sees-end h = record { says = rw (drop-of-length-le t h) refl; there = λ e. absurd (true≢false (sym e)) }
+
+-- What is seen, by what the test of it said.
+pub seen : {p : ℕ → Bool} {t : List ℕ} {i : ℕ} {r v : Bool} → Sees p t i r → r ≡ v → Sees p t i v
+seen s e = rw e at s
+
+-- What the scan of a byte says of the character.
+pub sees-the : (c : Char) {t : List ℕ} {i : ℕ} {r v : Bool} → Sees (byteIs (code c)) t i r → r ≡ v → Sees (the c) t i v
+unfolding the
+sees-the c s e = rw e at s
+
+-- What is seen is what the byte there is.
+pub seen-byte : {p : ℕ → Bool} {t : List ℕ} {i : ℕ} {r v : Bool} → Sees p t i r → r ≡ v → i < length t → p (getD t i 0) ≡ v
+seen-byte {p} {t} {i} s e h = ap (λ z. z .0) (sym (sees-at p t i h) ∙ s .says) ∙ e
+
+-- A byte that is another one than c is not c; any other byte is.
+pub but-yes : (c : Char) (x : ℕ) → but c x ≡ true → the c x ≡ false
+unfolding but the
+but-yes c x h = negated-true (eqb x (code c)) h
+
+pub but-no : (c : Char) (x : ℕ) → but c x ≡ false → the c x ≡ true
+unfolding but the
+but-no c x h = negated-false (eqb x (code c)) h
+
+-- The END of a text: is anything left, and has a text any byte.
+pub not-end : (t : List ℕ) (i : ℕ) → not (empty (drop i t)) ≡ ltb i (length t)
+unfolding empty
+not-end t i = go (decLe (length t) i)
+  where
+    go : Dec (length t ≤ i) → not (empty (drop i t)) ≡ ltb i (length t)
+    go (yes h) = rw (drop-of-length-le t h, le-ltb i (length t) h) refl
+    go (no h) = let z : i < length t = omega arith in rw (drop-cons t i 0 z, lt-ltb i (length t) z) refl
+
+pub not-empty : (t : List ℕ) → (length t ≡ 0 → ⊥) → empty t ≡ false
+unfolding empty
+not-empty [] h = absurd (h refl)
+not-empty (x ∷ xs) h = refl
 
 pub skip-at : (t : List ℕ) (i : ℕ) → i < length t → skip (drop i t) .1 ≡ drop (i + 1) t
 unfolding skip
@@ -45,7 +83,7 @@ pub record Spanning (p : ℕ → Bool) (t : List ℕ) (at i : ℕ) : Type 0 wher
   pub rest : span p (drop at t) .1 ≡ span p (drop i t) .1
 
 -- what stands from `at` to k, cut at i
-cut-at : (t : List ℕ) (at i k : ℕ) → at ≤ i → i ≤ k → take (k - at) (drop at t) ≡ take (i - at) (drop at t) ++ take (k - i) (drop i t)
+pub cut-at : (t : List ℕ) (at i k : ℕ) → at ≤ i → i ≤ k → take (k - at) (drop at t) ≡ take (i - at) (drop at t) ++ take (k - i) (drop i t)
 cut-at t at i k h g =
     let a : k - at ≡ (i - at) + (k - i) = omega arith in
     let b : at + (i - at) ≡ i = omega arith in
@@ -101,17 +139,14 @@ module _ (m t : List ℕ) (at : ℕ) where
   pub matching-start : at ≤ length t → Matching m t at 0
   matching-start h = record { short = omega arith; inside = omega arith; same = rw add-zero refl }
 
-  not-there : {P : Type 0} → false ≡ true → P
-  not-there e = absurd (true≢false (sym e))
-
   module _ (i : ℕ) (s : Matching m t at i) where
     pub matching-short : i < length m → length t ≤ at + i → Starts m t at false
     unfolding prefix
-    matching-short h g = record { says = s .same ∙ rw (drop-cons m i 0, drop-of-length-le t g) refl; there = λ e. not-there e }
+    matching-short h g = record { says = s .same ∙ rw (drop-cons m i 0, drop-of-length-le t g) refl; there = λ e. absurd (false≢true e) }
 
     pub matching-no : i < length m → at + i < length t → (getD m i 0 ≡ getD t (at + i) 0 → ⊥) → Starts m t at false
     unfolding prefix
-    matching-no h g n = record { says = s .same ∙ rw (drop-cons m i 0, drop-cons t (at + i) 0, ne-eqb _ _ n) refl; there = λ e. not-there e }
+    matching-no h g n = record { says = s .same ∙ rw (drop-cons m i 0, drop-cons t (at + i) 0, ne-eqb _ _ n) refl; there = λ e. absurd (false≢true e) }
 
     pub matching-on : i < length m → at + i < length t → getD m i 0 ≡ getD t (at + i) 0 → Matching m t at (i + 1)
     unfolding prefix
@@ -134,6 +169,30 @@ module _ {m t : List ℕ} {i : ℕ} {r : Bool} (s : Starts m t i r) where
 
   pub mark-no : r ≡ false → mark m (drop i t) ≡ (false, drop i t)
   mark-no e = mark-of m (drop i t) false (s .says ∙ e)
+
+-- A text that begins with a mark is the mark and what is behind it.
+pub prefix-split : (m t : List ℕ) → prefix m t ≡ true → t ≡ m ++ drop (length m) t
+unfolding prefix
+prefix-split [] t h = refl
+prefix-split (c ∷ m) [] h = absurd (true≢false (sym h))
+prefix-split (c ∷ m) (x ∷ xs) h =
+    let e : c ≡ x = eqb-true c x (and-l (eqb c x) (prefix m xs) h) in
+    λ j. sym e j ∷ prefix-split m xs (and-r (eqb c x) (prefix m xs) h) j
+
+pub stands : (m t : List ℕ) (at : ℕ) → at ≤ length t → prefix m (drop at t) ≡ true → Stands m t at (at + length m)
+stands m t at l h =
+    let e = prefix-split m (drop at t) h in
+    let z : at + length m - at ≡ length m = omega arith in
+    record {
+      on = omega arith;
+      inside = omega (arith, length-drop at t, ap length e ∙ length-append m (drop (length m) (drop at t)));
+      text = rw z (ap (take (length m)) e ∙ take-append-seam m (drop (length m) (drop at t)));
+    }
+
+-- Two texts are the same where they are as long and one begins with the other.
+pub same-of : (p q : List ℕ) {r : Bool} → Starts p q 0 r → (eqb (length p) (length q) && r) ≡ same p q
+unfolding same
+same-of p q {r} s = rw (sym (s .says))
 
 -- All bytes to the end.
 none-all : (p : ℕ → Bool) (x : ℕ) (xs : List ℕ) (c : Bool) → p x ≡ c → span p (x ∷ xs) .1 ≡ [] → (span p xs .1 ≡ [] → all p xs ≡ true) → all p (x ∷ xs) ≡ true

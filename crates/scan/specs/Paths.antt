@@ -1,7 +1,7 @@
 -- Paths: how far a segment has been read, and what the functions of `paths` promise.
 use mathlib.Core.Path.{_≡_, refl, sym, ap, _∙_}
 use mathlib.Core.List.{List, [], _∷_, _++_, append-assoc, append-nil}
-use mathlib.Core.Bool.{Bool, true, false, true≢false, not, _&&_, _||_}
+use mathlib.Core.Bool.{Bool, true, false, true≢false, not, _&&_, _||_, and-true, and-false}
 use lib.Dec.{leb, ltb, eqb, eqb·suc-suc}
 use lib.ListN.{length, take, drop, getD, set, length-set, drop-of-length-le, length-append, length-take, length-drop, List·getD-append}
 use native.Mathlib.Nat.{sub-zero, suc-sub-suc}
@@ -64,14 +64,6 @@ unfoldable inside : Segment → List ℕ → Bool
 inside s [] = whole s
 inside s (x ∷ xs) = inside (within s x) xs
 
-and-no : (a : Bool) → (a && false) ≡ false
-and-no true = refl
-and-no false = refl
-
-and-yes : (a : Bool) → (a && true) ≡ a
-and-yes true = refl
-and-yes false = refl
-
 within-bad : (x : ℕ) (c d : Bool) → runByte x ≡ c → the "." x ≡ d → within Bad x ≡ Bad
 unfolding within
 within-bad x false d p q = rw (p, within)
@@ -113,8 +105,8 @@ inside-dots (x ∷ xs) = at (runByte x) (the "." x) refl refl
   where
     at : (c d : Bool) → runByte x ≡ c → the "." x ≡ d → inside (within Dots x) xs ≡ (runByte x && all runByte xs && true)
     at false d p q = rw (within-no Dots x p, p) (inside-bad xs)
-    at true true p q = rw (within-dot Dots x p q, p) (inside-good xs ∙ sym (and-yes (all runByte xs)))
-    at true false p q = rw (within-name Dots x p q, p) (inside-good xs ∙ sym (and-yes (all runByte xs)))
+    at true true p q = rw (within-dot Dots x p q, p) (inside-good xs ∙ sym (and-true (all runByte xs)))
+    at true false p q = rw (within-name Dots x p q, p) (inside-good xs ∙ sym (and-true (all runByte xs)))
 
 inside-dot : (w : List ℕ) → inside Dot w ≡ (all runByte w && not (empty w) && not (same w (bytes ".")))
 unfolding inside all empty same prefix the
@@ -124,8 +116,8 @@ inside-dot (x ∷ xs) = at (runByte x) (the "." x) xs refl refl
     at : (c d : Bool) (w : List ℕ) → runByte x ≡ c → the "." x ≡ d → inside (within Dot x) w ≡ (runByte x && all runByte w && true && not (eqb (length (x ∷ w)) 1 && (the "." x && prefix w [])))
     at false d w p q = rw (within-no Dot x p, p) (inside-bad w)
     at true true [] p q = rw (within-dot Dot x p q, p, q) refl
-    at true true (y ∷ ys) p q = rw (within-dot Dot x p q, p, q, and-no) (inside-dots (y ∷ ys) ∙ sym (and-yes _))
-    at true false w p q = rw (within-name Dot x p q, p, q, and-no) (inside-good w ∙ sym (and-yes _ ∙ and-yes _))
+    at true true (y ∷ ys) p q = rw (within-dot Dot x p q, p, q, and-false) (inside-dots (y ∷ ys) ∙ sym (and-true _))
+    at true false w p q = rw (within-name Dot x p q, p, q, and-false) (inside-good w ∙ sym (and-true _ ∙ and-true _))
 
 inside-empty : (w : List ℕ) → inside Empty w ≡ isSegment w
 unfolding inside all empty same prefix the isSegment
@@ -136,8 +128,8 @@ inside-empty (x ∷ xs) = at (runByte x) (the "." x) xs refl refl
         inside (within Empty x) w ≡ (runByte x && all runByte w && true && not (eqb (length (x ∷ w)) 1 && (the "." x && prefix w [])) && not (eqb (length (x ∷ w)) 2 && (the "." x && prefix w (bytes "."))))
     at false d w p q = rw (within-no Empty x p, p) (inside-bad w)
     at true true [] p q = rw (within-dot Empty x p q, p, q) refl
-    at true true (y ∷ ys) p q = rw (within-dot Empty x p q, p, q, and-no, eqb·suc-suc (length (y ∷ ys)) 1) (inside-dot (y ∷ ys) ∙ ap (λ z. z && not (same (y ∷ ys) (bytes "."))) (sym (and-yes (all runByte (y ∷ ys) && true))))
-    at true false w p q = rw (within-name Empty x p q, p, q, and-no, and-no) (inside-good w ∙ sym (and-yes _ ∙ and-yes _ ∙ and-yes _))
+    at true true (y ∷ ys) p q = rw (within-dot Empty x p q, p, q, and-false, eqb·suc-suc (length (y ∷ ys)) 1) (inside-dot (y ∷ ys) ∙ ap (λ z. z && not (same (y ∷ ys) (bytes "."))) (sym (and-true (all runByte (y ∷ ys) && true))))
+    at true false w p q = rw (within-name Empty x p q, p, q, and-false, and-false) (inside-good w ∙ sym (and-true _ ∙ and-true _ ∙ and-true _))
 
 -- A path's segments, the first of them read in part.
 abbrev froms : Segment → List (List ℕ) → Bool
@@ -186,7 +178,7 @@ ended-ends Bad t = sym (ends-bad t)
 
 froms-ends : (s : Segment) (t : List ℕ) → froms s (split "/" t) ≡ ends s t
 unfolding split ends inside all step
-froms-ends s [] = and-yes (whole s)
+froms-ends s [] = and-true (whole s)
 froms-ends s (x ∷ xs) = at (the "/" x) refl (froms-ends Empty xs) (froms-ends (within s x) xs)
   where
     at : (c : Bool) → the "/" x ≡ c → froms Empty (split "/" xs) ≡ ends Empty xs → froms (within s x) (split "/" xs) ≡ ends (within s x) xs → froms s (split "/" (x ∷ xs)) ≡ ends (step s x) xs
@@ -195,7 +187,7 @@ froms-ends s (x ∷ xs) = at (the "/" x) refl (froms-ends Empty xs) (froms-ends 
 
 pub path-long : (p : List ℕ) → 255 < length p → false ≡ isPath p
 unfolding isPath
-path-long p h = rw (lt-leb (length p) 255 h, and-no) refl
+path-long p h = rw (lt-leb (length p) 255 h, and-false) refl
 
 -- What one pass over a path has left to read.
 path-ends : (p : List ℕ) → length p ≤ 255 → isPath p ≡ ends Empty p
@@ -267,7 +259,7 @@ holds-other x xs h = rw (ne-eqb x 47 h) refl
 holds-later : (x : ℕ) (xs : List ℕ) (c : Bool) → all (but "/") xs ≡ c → holds "/" (x ∷ xs) ≡ false → holds "/" xs ≡ false
 unfolding holds all
 holds-later x xs true q h = rw q
-holds-later x xs false q h = absurd (true≢false (rw (q, and-no) at h))
+holds-later x xs false q h = absurd (true≢false (rw (q, and-false) at h))
 
 parent-none : (p : List ℕ) → holds "/" p ≡ false → parent p ≡ []
 unfolding parent
@@ -424,7 +416,7 @@ unfolding empty
 is-empty [] h = refl
 is-empty (x ∷ xs) h = absurd (true≢false (sym h))
 
-trimEnd-cons : (x : ℕ) (xs : List ℕ) (c : Bool) → (blank x && empty (trimEnd xs)) ≡ c → trimEnd (x ∷ xs) ≡ elim c [ true ↦ [] | false ↦ x ∷ trimEnd xs ]
+pub trimEnd-cons : (x : ℕ) (xs : List ℕ) (c : Bool) → (blank x && empty (trimEnd xs)) ≡ c → trimEnd (x ∷ xs) ≡ elim c [ true ↦ [] | false ↦ x ∷ trimEnd xs ]
 unfolding trimEnd
 trimEnd-cons x xs c q = rw (q, trimEnd)
 

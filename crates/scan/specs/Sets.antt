@@ -71,6 +71,12 @@ pub record Starts (m t : List ℕ) (i : ℕ) (r : Bool) : Type 0 where
   pub says : prefix m (drop i t) ≡ r
   pub there : r ≡ true → i + length m ≤ length t
 
+-- The mark stands at a place; `behind` is the place behind it.
+pub record Stands (m t : List ℕ) (at behind : ℕ) : Type 0 where
+  pub on : at ≤ behind
+  pub inside : behind ≤ length t
+  pub text : part t at behind ≡ m
+
 -- One byte on from i, or none at the end.
 pub record Skips (t : List ℕ) (i j : ℕ) : Type 0 where
   pub on : i ≤ j

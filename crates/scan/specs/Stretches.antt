@@ -5,11 +5,12 @@ use mathlib.Core.Bool.{Bool, true, false, _&&_, true≢false}
 use Prim.Native.Char.{Char, code}
 use Prim.Native.Nat.{ℕ, zero, suc, _+_, _-_, _≤_, _<_}
 use native.Mathlib.Omega.{arith}
-use lib.ListN.{length, take, drop, getD, length-drop}
+use lib.ListN.{length, take, drop, getD, length-drop, take-append-drop}
 use lib.Seq.{drop-cons, drop-drop, length-take-le, getD-take, getD-drop}
 use Rattle.rules.specs.Reader.{all, but, span}
 use Rattle.rules.specs.Laws.Bool.{and-l, and-r, and-i}
-use Rattle.scan.specs.Sets.{Spans, notByte}
+use Rattle.rules.specs.Laws.Texts.{all-left, all-right}
+use Rattle.scan.specs.Sets.{part, Spans, notByte}
 use Rattle.scan.specs.Paths.{drop-take}
 
 all-each : (p : ℕ → Bool) (l : List ℕ) (k : ℕ) → all p l ≡ true → k < length l → p (getD l k 0) ≡ true
@@ -17,6 +18,12 @@ unfolding all
 all-each p [] k h z = absurd (omega arith)
 all-each p (x ∷ xs) zero h z = and-l (p x) (all p xs) h
 all-each p (x ∷ xs) (suc k) h z = all-each p xs k (and-r (p x) (all p xs) h) (omega arith)
+
+-- A part of a text whose bytes all have p.
+pub all-part : (p : ℕ → Bool) (a e : ℕ) (t : List ℕ) → all p t ≡ true → all p (part t a e) ≡ true
+all-part p a e t h =
+    let d : all p (drop a t) ≡ true = all-right p (take a t) (drop a t) (ap (all p) (take-append-drop a t) ∙ h) in
+    all-left p (part t a e) (drop (e - a) (drop a t)) (ap (all p) (take-append-drop (e - a) (drop a t)) ∙ d)
 
 -- Every byte that a stretch takes has p.
 pub span-took : (p : ℕ → Bool) (t : List ℕ) → all p (span p t .0) ≡ true

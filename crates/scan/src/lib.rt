@@ -2,7 +2,7 @@
 ghost use mathlib.Core.Path.{_≡_};
 ghost use Prim.Native.Nat.{_+_, _≤_};
 ghost use lib.ListN.{length, take, drop};
-ghost use Rattle.rules.specs.Reader.{all};
+ghost use Rattle.rules.specs.Reader.{all, same};
 ghost use Rattle.rules.specs.Bytes.{ascii};
 ghost use Rattle.scan.specs.Sets.{member, byteIs, notByte, Spans, Sees, Starts, Skips};
 
@@ -176,6 +176,13 @@ pub fn starts_with(text: &[u8], at: usize, mark: &[u8]) -> bool
         i += 1;
     }
     true
+}
+
+// Are two texts the same?
+pub fn same(p: &[u8], q: &[u8]) -> bool
+    ensures { λ r. ⌜ r ≡ same (now (p .entry)) (now (q .entry)) ⌝ }
+{
+    (p.len() == q.len()) & starts_with(q, 0, p)
 }
 
 // One byte on, or none at the end.

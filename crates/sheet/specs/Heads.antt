@@ -1,6 +1,6 @@
 -- The head of a record (01, section 2): all of it but the records that a dictionary holds.
 use mathlib.Core.Path.{_≡_, refl, sym, ap, _∙_}
-use mathlib.Core.List.{List, [], _∷_, _++_, append-assoc}
+use mathlib.Core.List.{List, [], _++_, append-assoc}
 use mathlib.Core.Bool.{Bool, true, false, not, _&&_, _||_}
 use mathlib.Core.Logic.{_⊎_, inl, inr, ⊎-elim}
 use mathlib.Core.Option.{Option, none, some}
@@ -16,6 +16,7 @@ use borrow.Author.Tests.{eq-eqb, ne-eqb, eqb-true, eqb-false, ltb-true, ltb-fals
 use Rattle.rules.specs.Reader.{empty}
 use Rattle.rules.specs.Layout.{Parser, bind, _>>=_, _>>_, pure, broken, require, bit, byte, word16, take as taken, field, fieldIf}
 use Rattle.rules.specs.Laws.Bool.{or-elim, or-false-l, or-false-r}
+use Rattle.rules.specs.Laws.Layout.{word-at, word-end, takes, takes-short, take-some}
 use Rattle.sheet.specs.Parts.{slice}
 use Rattle.sheet.specs.declared.head.Head.{Head}
 use Rattle.sheet.specs.declared.head.Head.the-variants.{Bad, Record}
@@ -113,61 +114,26 @@ Reads s i Bad = head (drop i s) ≡ none
 Reads s i (Record o) = IsItem s i o
 
 -- LAWS.
--- Two bytes are read, or there are fewer.
-pub word-read : (s : List ℕ) (at : ℕ) → at + 2 ≤ length s → word16 (drop at s) ≡ some (wordAt s at, drop (at + 2) s)
-unfolding word16 byte pure bind _>>=_
-word-read s at h =
-    let e : at + 2 ≡ suc (suc at) = omega arith in
-    let f : drop at s ≡ getD s at 0 ∷ getD s (suc at) 0 ∷ drop (suc (suc at)) s = drop-cons s at 0 (omega arith) ∙ ap (λ z. getD s at 0 ∷ z) (drop-cons s (suc at) 0 (omega arith)) in
-    rw (e, add-one, f) refl
-
-short-word : (b : List ℕ) → length b < 2 → word16 b ≡ none
-unfolding word16 byte bind _>>=_
-short-word [] h = refl
-short-word (x ∷ []) h = refl
-short-word (x ∷ y ∷ b) h = absurd (omega arith)
-
-pub word-none : (s : List ℕ) (at : ℕ) → length s - at < 2 → word16 (drop at s) ≡ none
-word-none s at h = short-word (drop at s) (rw length-drop h)
-
-taken-some : (n : ℕ) (b : List ℕ) → n ≤ length b → taken n b ≡ some (take n b, drop n b)
-unfolding taken byte pure bind _>>=_
-taken-some zero b h = refl
-taken-some (suc n) [] h = absurd (omega arith)
-taken-some (suc n) (x ∷ b) h = rw (taken-some n b (omega arith)) refl
-
-taken-none : (n : ℕ) (b : List ℕ) → length b < n → taken n b ≡ none
-unfolding taken byte pure bind _>>=_
-taken-none zero b h = absurd (omega arith)
-taken-none (suc n) [] h = refl
-taken-none (suc n) (x ∷ b) h = rw (taken-none n b (omega arith)) refl
-
 field-empty : (b c : List ℕ) → word16 b ≡ some (0, c) → field word16 b ≡ none
 unfolding field taken require empty pure broken bind _>>=_ _>>_
 field-empty b c e = rw e refl
 
 field-long : (b c : List ℕ) (n : ℕ) → word16 b ≡ some (n, c) → length c < n → field word16 b ≡ none
 unfolding field bind _>>=_ _>>_
-field-long b c n e h = rw e (rw (taken-none n c h) refl)
-
-full : (n : ℕ) (b : List ℕ) → n ≤ length b → (n ≡ 0 → ⊥) → empty (take n b) ≡ false
-unfolding empty
-full zero b h k = absurd (k refl)
-full (suc n) [] h k = absurd (omega arith)
-full (suc n) (x ∷ b) h k = refl
+field-long b c n e h = rw e (rw (takes-short n c h) refl)
 
 field-some : (b c : List ℕ) (n : ℕ) → word16 b ≡ some (n, c) → n ≤ length c → (n ≡ 0 → ⊥) → field word16 b ≡ some (take n c, drop n c)
 unfolding field require pure bind _>>=_ _>>_
-field-some b c n e h k = rw e (rw (taken-some n c h) (rw (full n c h k) refl))
+field-some b c n e h k = rw e (rw (takes n c h) (rw (take-some n c (omega (arith, k)) h) refl))
 
 -- What `field` answers.
 pub field-short : (s : List ℕ) (at : ℕ) → length s - at < 2 → IsField s at 0
 unfolding field bind _>>=_
-field-short s at h = record { missing = λ e. rw (word-none s at h) refl; inside = λ e. absurd (e refl); is = λ e. absurd (e refl) }
+field-short s at h = record { missing = λ e. rw (word-end s at (omega arith)) refl; inside = λ e. absurd (e refl); is = λ e. absurd (e refl) }
 
 module _ (s : List ℕ) (at n : ℕ) (e : n ≡ wordAt s at) (g : at + 2 ≤ length s) where
   read-n : word16 (drop at s) ≡ some (n, drop (at + 2) s)
-  read-n = word-read s at g ∙ ap (λ z. some (z, drop (at + 2) s)) (sym e)
+  read-n = word-at s at (omega arith) ∙ ap (λ z. some (z, drop (at + 2) s)) (sym e)
 
   pub field-over : length s - at - 2 < n → IsField s at 0
   field-over h = record { missing = λ z. field-long (drop at s) (drop (at + 2) s) n read-n (rw length-drop (omega arith)); inside = λ z. absurd (z refl); is = λ z. absurd (z refl) }
@@ -344,7 +310,7 @@ module _ (s : List ℕ) (m from to : ℕ) (g : goodMap m ≡ true) where
     refl,
     record {
       v = holding n;
-      is = shape-dictionary (m / 2) (drop to s) (is-dictionary m g h) ∙ rw (word-read s to l, e) refl;
+      is = shape-dictionary (m / 2) (drop to s) (is-dictionary m g h) ∙ rw (word-at s to (omega arith), e) refl;
       behind = omega arith;
       on = omega arith;
       inside = l;
@@ -356,7 +322,7 @@ module _ (s : List ℕ) (m from to : ℕ) (g : goodMap m ≡ true) where
 
   pub value-no-count : (bitAnd m 4 ≡ 0 → ⊥) → length s - to < 2 → ValueReads s m from to Bad
   unfolding ValueReads bind
-  value-no-count h l = shape-dictionary (m / 2) (drop to s) (is-dictionary m g h) ∙ rw (word-none s to l) refl
+  value-no-count h l = shape-dictionary (m / 2) (drop to s) (is-dictionary m g h) ∙ rw (word-end s to (omega arith)) refl
 
   module _ (l : to ≤ length s) where
     pub value-nothing : (bitAnd m 8 ≡ 0 → ⊥) → ValueReads s m from to (Record (record { from = from; to = to; kind = 1; at = to; next = to; count = 0 }))

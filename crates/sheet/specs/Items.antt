@@ -3,14 +3,13 @@ use mathlib.Core.Path.{_≡_, refl, sym, ap, _∙_}
 use mathlib.Core.Bool.{Bool, true, false, not}
 use mathlib.Core.List.{List, [], _∷_, _++_, append-assoc}
 use mathlib.Core.Option.{Option, none, some}
-use Prim.Native.Nat.{ℕ, zero, suc, _+_, _-_, _*_, _/_, _%_, _≤_, _<_}
+use Prim.Native.Nat.{ℕ, zero, suc, _+_, _-_, _/_, _≤_, _<_}
 use native.Mathlib.Omega.{arith}
-use lib.Dec.{eqb}
-use lib.ListN.{length, take, drop, length-append}
+use lib.ListN.{length, take, drop}
 use lib.Seq.{take-append-seam, drop-append-seam}
-use Rattle.rules.specs.Reader.{empty}
-use Rattle.rules.specs.Layout.{bind, _>>=_, _>>_, pure, require, bit, byte, word16, take as taken, field, fieldIf}
-use Rattle.rules.specs.Sheet.{Value, text, nothing, dictionary, Records, end, rec, word16Bytes, fieldBytes, fieldMask, count, valueMask, valueBytes, encode}
+use Rattle.rules.specs.Layout.{bind, _>>=_, _>>_, pure, byte}
+use Rattle.rules.specs.Sheet.{Value, text, nothing, dictionary, Records, end, rec, fieldBytes, fieldMask, count, valueMask, valueBytes, encode}
+use Rattle.rules.specs.Laws.Sheet.{word16-read, field-read, map-byte, name-read, count-le}
 use Rattle.sheet.specs.Parts.{Part, slice, slice-part, part-of, part-cast}
 use Rattle.sheet.specs.Heads.{Shape, plain, absent, holding, shapeKind, shapeText, shapeCount, shape, head, IsItem, Reads}
 use Rattle.sheet.specs.declared.head.Head.{Head}
@@ -43,53 +42,18 @@ unfolding encode join
 encode-join end r = refl
 encode-join (rec n v q) r = rw (encode-join q r) (simp append-assoc)
 
--- No more records than bytes.
-pub count-le : (r : Records) → count r ≤ length (encode r)
-unfolding count encode
-count-le end = omega arith
-count-le (rec n v r) = simp length-append (omega (arith, count-le r))
-
 -- WHAT IS WRITTEN IS READ BACK.
-word-back : (n : ℕ) (b : List ℕ) → word16 (word16Bytes n ++ b) ≡ some (n, b)
-unfolding word16 word16Bytes byte pure bind _>>=_
-word-back n b = let e : n % 256 + 256 * (n / 256) ≡ n = omega arith in ap (λ z. some (z, b)) e
-
-taken-back : (t b : List ℕ) → taken (length t) (t ++ b) ≡ some (t, b)
-unfolding taken byte pure bind _>>=_
-taken-back [] b = refl
-taken-back (x ∷ xs) b = rw (taken-back xs b)
-
-field-back : (x : ℕ) (xs b : List ℕ) → field word16 (fieldBytes (x ∷ xs) ++ b) ≡ some (x ∷ xs, b)
-unfolding field fieldBytes require empty pure bind _>>=_ _>>_
-field-back x xs b = rw (append-assoc, word-back) (rw (taken-back (x ∷ xs) b))
-
-map-back : (n : List ℕ) (v : Value) → (bit 0 (fieldMask 1 n + valueMask v) ≡ eqb (fieldMask 1 n) 1) × ((fieldMask 1 n + valueMask v) / 2 ≡ valueMask v / 2)
-unfolding bit fieldMask valueMask
-map-back [] (text []) = (refl, refl)
-map-back [] (text (x ∷ xs)) = (refl, refl)
-map-back [] nothing = (refl, refl)
-map-back [] (dictionary r) = (refl, refl)
-map-back (y ∷ ys) (text []) = (refl, refl)
-map-back (y ∷ ys) (text (x ∷ xs)) = (refl, refl)
-map-back (y ∷ ys) nothing = (refl, refl)
-map-back (y ∷ ys) (dictionary r) = (refl, refl)
-
-name-back : (n b : List ℕ) → fieldIf (eqb (fieldMask 1 n) 1) word16 (fieldBytes n ++ b) ≡ some (n, b)
-unfolding fieldIf fieldMask fieldBytes pure
-name-back [] b = refl
-name-back (x ∷ xs) b = field-back x xs b
-
 shape-back : (v : Value) (b : List ℕ) → shape (valueMask v / 2) (valueBytes v ++ b) ≡ some (lead v, encode (inner v) ++ b)
 unfolding shape valueMask valueBytes fieldMask fieldBytes lead inner encode pure bind _>>=_
 shape-back (text []) b = refl
-shape-back (text (x ∷ xs)) b = rw (field-back x xs b) refl
+shape-back (text (x ∷ xs)) b = rw (field-read x xs b) refl
 shape-back nothing b = refl
-shape-back (dictionary r) b = rw (append-assoc, word-back (count r) (encode r ++ b)) refl
+shape-back (dictionary r) b = rw (append-assoc, word16-read (count r) (encode r ++ b)) refl
 
 head-back : (n : List ℕ) (v : Value) (r : Records) (z : List ℕ) → head (encode (rec n v r) ++ z) ≡ some ((n, lead v), encode (join (inner v) r) ++ z)
 unfolding head encode byte pure bind _>>=_
 head-back n v r z =
-    rw (append-assoc, append-assoc, map-back n v .0, map-back n v .1, name-back n (valueBytes v ++ (encode r ++ z)))
+    rw (append-assoc, append-assoc, map-byte n v .0, map-byte n v .1, name-read n (valueBytes v ++ (encode r ++ z)))
     (rw (shape-back v (encode r ++ z), encode-join (inner v) r, append-assoc) refl)
 
 -- There is a record at i.

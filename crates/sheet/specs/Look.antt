@@ -1,17 +1,16 @@
 -- Lookup of a path with dots.
 use mathlib.Core.Path.{_≡_, refl, sym, ap, subst, _∙_}
-use mathlib.Core.Bool.{Bool, true, false, not, _&&_, true≢false, false≢true}
+use mathlib.Core.Bool.{Bool, true, false, _&&_, false≢true}
 use mathlib.Core.List.{List, [], _∷_, _++_, append-nil}
 use mathlib.Core.Option.{Option, none, some}
 use Prim.Native.Char.{code}
 use Prim.Native.Nat.{ℕ, zero, suc, _+_, _-_, _≤_, _<_}
 use native.Mathlib.Numerals.{add-one}
 use native.Mathlib.Omega.{arith}
-use lib.Dec.{eqb}
 use lib.ListN.{length, take, drop, getD, drop-of-length-le, length-drop, take-append-drop}
 use lib.Seq.{drop-cons, drop-drop, take-suc, getD-drop}
 use borrow.Author.Tests.{eq-eqb, ne-eqb}
-use Rattle.rules.specs.Reader.{all, but, the, span}
+use Rattle.rules.specs.Reader.{all, but, the}
 use Rattle.rules.specs.Bytes.{word, nameByte, split, prepend}
 use Rattle.rules.specs.Layout.{bind}
 use Rattle.rules.specs.Sheet.{Value, text, nothing, dictionary, Records, encode, count, goodRecords, goodValue, get, getFields, getPieces, resolve}
@@ -19,6 +18,8 @@ use Rattle.rules.specs.Laws.Bool.{and-l, and-r}
 use Rattle.rules.specs.Laws.Texts.{all-append}
 use Rattle.rules.specs.Laws.Sheet.{get-good}
 use Rattle.scan.specs.Sets.{Spans}
+use Rattle.scan.specs.Laws.{but-yes, but-no}
+use Rattle.scan.specs.Stretches.{span-took, spans-stop}
 use Rattle.sheet.specs.Parts.{Part, slice, slice-part}
 use Rattle.sheet.specs.Order.{made, asked, asked-length, asked-slice, asked-dot, asked-getD, made-dot}
 use Rattle.sheet.specs.Find.{Gives, Level}
@@ -32,39 +33,13 @@ pub record UpToDot (t : List ℕ) (p q : ℕ) : Type 0 where
   pub none : all (but ".") (slice p q t) ≡ true
   pub at : q < length t → but "." (getD t q 0) ≡ false
 
-span-good-at : (p : ℕ → Bool) (x : ℕ) (xs : List ℕ) (c : Bool) → p x ≡ c → all p (span p xs .0) ≡ true → all p (span p (x ∷ xs) .0) ≡ true
-unfolding span all
-span-good-at p x xs true e h = rw (e, span) (rw e h)
-span-good-at p x xs false e h = rw (e, span) refl
-
-span-good : (p : ℕ → Bool) (u : List ℕ) → all p (span p u .0) ≡ true
-unfolding span all
-span-good p [] = refl
-span-good p (x ∷ xs) = span-good-at p x xs (p x) refl (span-good p xs)
-
-span-stop-at : (p : ℕ → Bool) (x : ℕ) (xs : List ℕ) (y : ℕ) (ys : List ℕ) (c : Bool) → p x ≡ c → (span p xs .1 ≡ y ∷ ys → p y ≡ false) → span p (x ∷ xs) .1 ≡ y ∷ ys → p y ≡ false
-unfolding span
-span-stop-at p x xs y ys true e f h = f (rw (e, span) at h)
-span-stop-at p x xs y ys false e f h =
-    let g : x ∷ xs ≡ y ∷ ys = rw (e, span) at h in
-    let z : x ≡ y = cc g in
-    sym (ap p z) ∙ e
-
-span-stop : (p : ℕ → Bool) (u : List ℕ) (y : ℕ) (ys : List ℕ) → span p u .1 ≡ y ∷ ys → p y ≡ false
-unfolding span
-span-stop p [] y ys h = absurd (nil-cons y ys h)
-  where
-    nil-cons : (y : ℕ) (ys : List ℕ) → [] ≡ y ∷ ys → ⊥
-    nil-cons y ys h = let z : _≡_ {A = ℕ} 0 1 = cc in omega arith
-span-stop p (x ∷ xs) y ys h = span-stop-at p x xs y ys (p x) refl (span-stop p xs y ys) h
-
 -- What `span` answers.
 pub dot-spans : {t : List ℕ} {p q : ℕ} → Spans (but ".") t p q → UpToDot t p q
 dot-spans {t} {p} {q} s = record {
   on = s .on;
   inside = s .inside;
-  none = rw (s .took) at (span-good (but ".") (drop p t));
-  at = λ l. span-stop (but ".") (drop p t) (getD t q 0) (drop (suc q) t) (s .rest ∙ drop-cons t q 0 l);
+  none = rw (s .took) at (span-took (but ".") (drop p t));
+  at = λ l. spans-stop s l;
 }
 
 -- The same in a path as it is asked for.
@@ -77,32 +52,16 @@ dot-asked b t {p} {q} d = record {
 }
 
 -- PIECES.
-dot-yes : (x : ℕ) → but "." x ≡ false → the "." x ≡ true
-unfolding but the
-dot-yes x h = go (eqb x 46) h
-  where
-    go : (c : Bool) → not c ≡ false → c ≡ true
-    go true e = refl
-    go false e = absurd (true≢false e)
-
-dot-no : (x : ℕ) → but "." x ≡ true → the "." x ≡ false
-unfolding but the
-dot-no x h = go (eqb x 46) h
-  where
-    go : (c : Bool) → not c ≡ true → c ≡ false
-    go true e = absurd (false≢true e)
-    go false e = refl
-
 split-dot : (a b : List ℕ) (x : ℕ) → all (but ".") a ≡ true → but "." x ≡ false → split "." (a ++ (x ∷ b)) ≡ a ∷ split "." b
 unfolding all split prepend
-split-dot [] b x h e = rw (dot-yes x e, split) refl
+split-dot [] b x h e = rw (but-no "." x e, split) refl
 split-dot (y ∷ a) b x h e =
-    rw (dot-no y (and-l (but "." y) (all (but ".") a) h), split) (rw (split-dot a b x (and-r (but "." y) (all (but ".") a) h) e) refl)
+    rw (but-yes "." y (and-l (but "." y) (all (but ".") a) h), split) (rw (split-dot a b x (and-r (but "." y) (all (but ".") a) h) e) refl)
 
 split-last : (a : List ℕ) → all (but ".") a ≡ true → split "." a ≡ a ∷ []
 unfolding all split prepend
 split-last [] h = refl
-split-last (y ∷ a) h = rw (dot-no y (and-l (but "." y) (all (but ".") a) h), split) (rw (split-last a (and-r (but "." y) (all (but ".") a) h)) refl)
+split-last (y ∷ a) h = rw (but-yes "." y (and-l (but "." y) (all (but ".") a) h), split) (rw (split-last a (and-r (but "." y) (all (but ".") a) h)) refl)
 
 module _ {t : List ℕ} {p q : ℕ} (d : UpToDot t p q) where
   rest-is : drop p t ≡ slice p q t ++ drop q t

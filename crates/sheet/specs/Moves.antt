@@ -1,40 +1,26 @@
 -- Stores and moves inside one list. Assumes nothing.
 use mathlib.Core.Path.{_≡_, refl, sym, ap, _∙_}
 use mathlib.Core.List.{List, [], _∷_, _++_, append-assoc}
-use Prim.Native.Nat.{ℕ, zero, suc, _+_, _-_, _≤_, _<_}
+use Prim.Native.Nat.{ℕ, suc, _+_, _-_, _≤_, _<_}
 use native.Mathlib.Numerals.{add-one}
-use native.Mathlib.Nat.{add-zero, sub-zero, suc-sub-suc}
 use native.Mathlib.Omega.{arith}
 use lib.ListN.{length, take, drop, getD, set, length-append, length-drop, length-set}
-use lib.Seq.{sets, sets-eq, length-sets, length-take-le, set-comm, take-set-le, drop-set-lt, take-append-le, take-append-add, take-add, take-take, drop-append-add, drop-drop, take-at}
-use Rattle.buffers.specs.Laws.{sets-append}
+use lib.Seq.{sets, sets-eq, length-sets, length-take-le, drop-set-lt, take-append-le, take-append-add, take-take, drop-append-add, drop-drop, take-at}
+use Rattle.scan.specs.Laws.{cut-at}
+use Rattle.scan.specs.Paths.{drop-take}
+use Rattle.buffers.specs.Laws.{sets-append, sets-before, take-sets}
 use Rattle.sheet.specs.Parts.{slice, length-slice}
 
--- The two ways to cut a stretch out.
-pub drop-take : (f t : ℕ) (s : List ℕ) → f ≤ t → drop f (take t s) ≡ slice f t s
-drop-take zero t s h = rw sub-zero refl
-drop-take (suc f) zero s h = absurd (omega arith)
-drop-take (suc f) (suc t) [] h = rw suc-sub-suc (go (t - f))
-  where
-    go : (k : ℕ) → _≡_ {A = List ℕ} [] (take k [])
-    go zero = refl
-    go (suc k) = refl
-drop-take (suc f) (suc t) (x ∷ s) h = rw suc-sub-suc (drop-take f t s (omega arith))
-
 pub slice-take : (a b n : ℕ) (s : List ℕ) → a ≤ b → b ≤ n → slice a b (take n s) ≡ slice a b s
-slice-take a b n s h k = sym (drop-take a b (take n s) h) ∙ ap (drop a) (take-take b n s k) ∙ drop-take a b s h
+slice-take a b n s h k = sym (drop-take a b (take n s)) ∙ ap (drop a) (take-take b n s k) ∙ drop-take a b s
 
--- Stores leave what lies before them and behind them.
-take-sets : (t i : ℕ) (y l : List ℕ) → t ≤ i → take t (sets l i y) ≡ take t l
-take-sets t i [] l h = refl
-take-sets t i (v ∷ y) l h = take-sets t (suc i) y (set l i v) (omega arith) ∙ take-set-le t l i v h
-
+-- Stores leave what lies behind them, and what lies before them.
 drop-sets : (f i : ℕ) (y l : List ℕ) → i + length y ≤ f → drop f (sets l i y) ≡ drop f l
 drop-sets f i [] l h = refl
 drop-sets f i (v ∷ y) l h = drop-sets f (suc i) y (set l i v) (omega arith) ∙ drop-set-lt f l i v (omega arith)
 
 slice-below : (f t i : ℕ) (y l : List ℕ) → f ≤ t → t ≤ i → slice f t (sets l i y) ≡ slice f t l
-slice-below f t i y l h k = sym (drop-take f t (sets l i y) h) ∙ ap (drop f) (take-sets t i y l k) ∙ drop-take f t l h
+slice-below f t i y l h k = sym (drop-take f t (sets l i y)) ∙ ap (drop f) (take-sets l i y t k) ∙ drop-take f t l
 
 slice-above : (f t i : ℕ) (y l : List ℕ) → i + length y ≤ f → slice f t (sets l i y) ≡ slice f t l
 slice-above f t i y l h = ap (take (t - f)) (drop-sets f i y l h)
@@ -47,19 +33,8 @@ slice-stored p q i y l h k g =
     let a : sets l i y ≡ take i l ++ (y ++ z) = sets-eq y l i g ∙ append-assoc (take i l) y z in
     let b : drop (i + p) (sets l i y) ≡ drop p (y ++ z) = ap (drop (i + p)) a ∙ ap (λ w. drop (w + p) (take i l ++ (y ++ z))) (sym u) ∙ drop-append-add (take i l) (y ++ z) p in
     let e : i + q - (i + p) ≡ q - p = omega arith in
-    let c : slice p q (y ++ z) ≡ slice p q y = sym (drop-take p q (y ++ z) h) ∙ ap (drop p) (take-append-le q y z k) ∙ drop-take p q y h in
+    let c : slice p q (y ++ z) ≡ slice p q y = sym (drop-take p q (y ++ z)) ∙ ap (drop p) (take-append-le q y z k) ∙ drop-take p q y in
     rw e (ap (take (q - p)) b ∙ c)
-
--- A store in front of another one.
-set-sets : (l : List ℕ) (i j v : ℕ) (y : List ℕ) → i < j → set (sets l j y) i v ≡ sets (set l i v) j y
-set-sets l i j v [] h = refl
-set-sets l i j v (w ∷ y) h = set-sets (set l j w) i (suc j) v y (omega arith) ∙ ap (λ z. sets z (suc j) y) (set-comm l j i w v (λ e. absurd (omega arith)))
-
-pub sets-before : (x y l : List ℕ) (i : ℕ) → sets (sets l (i + length x) y) i x ≡ sets l i (x ++ y)
-sets-before [] y l i = rw add-zero refl
-sets-before (v ∷ x) y l i =
-    let e : i + suc (length x) ≡ suc i + length x = omega arith in
-    ap (λ z. sets z (suc i) x) (set-sets l i (i + suc (length x)) v y (omega arith) ∙ ap (λ j. sets (set l i v) j y) e) ∙ sets-before x y (set l i v) (suc i)
 
 -- What is stored at i, and all that stands before it.
 pub take-stored : (b y : List ℕ) (i m : ℕ) → i + length y ≡ m → m ≤ length b → take m (sets b i y) ≡ take i b ++ y
@@ -94,7 +69,7 @@ module _ {buf : List ℕ} {at a b to n : ℕ} (g : Arranged buf at a b to n) whe
   module _ {c : List ℕ} (h : to < at + (b - a)) (p : c ≡ sets buf (at + (b - a)) (slice to n buf)) where
     both : (v : List ℕ) → v ≡ slice a b buf → {d : List ℕ} → d ≡ sets c at v → d ≡ sets buf at (slice a b buf ++ slice to n buf)
     both v e q =
-        q ∙ ap (λ z. sets c at z) e ∙ ap (λ z. sets z at (slice a b buf)) (p ∙ ap (λ z. sets buf (at + z) (slice to n buf)) (sym own-long)) ∙ sets-before (slice a b buf) (slice to n buf) buf at
+        q ∙ ap (λ z. sets c at z) e ∙ ap (λ z. sets z at (slice a b buf)) (p ∙ ap (λ z. sets buf (at + z) (slice to n buf)) (sym own-long)) ∙ sets-before buf at (slice a b buf) (slice to n buf)
 
     pub arrange-below : b ≤ to → {d : List ℕ} → d ≡ sets c at (slice a b c) → d ≡ sets buf at (slice a b buf ++ slice to n buf)
     arrange-below k q = both (slice a b c) (ap (slice a b) p ∙ slice-below a b (at + (b - a)) (slice to n buf) buf (g .on) (omega arith)) q
@@ -112,9 +87,9 @@ module _ {buf : List ℕ} {at a b to n : ℕ} (g : Arranged buf at a b to n) whe
         slice-slice x y j k l =
             let i : to + (x - to) ≡ x = omega arith in
             let m : y - to - (x - to) ≡ y - x = omega arith in
-            sym (drop-take (x - to) (y - to) (slice to n buf) (omega arith))
+            sym (drop-take (x - to) (y - to) (slice to n buf))
             ∙ ap (drop (x - to)) (take-take (y - to) (n - to) (drop to buf) (omega arith))
-            ∙ drop-take (x - to) (y - to) (drop to buf) (omega arith)
+            ∙ drop-take (x - to) (y - to) (drop to buf)
             ∙ rw (m, drop-drop, i) refl
 
     pub arrange-above : to ≤ a → {d : List ℕ} → d ≡ sets c at (slice (a + (at + (b - a) - to)) (b + (at + (b - a) - to)) c) → d ≡ sets buf at (slice a b buf ++ slice to n buf)
@@ -129,12 +104,6 @@ module _ {buf : List ℕ} {at a b to n : ℕ} (g : Arranged buf at a b to n) whe
         let i : to + (e - to) ≡ e = omega arith in
         let v₁ : slice e (b + (e - to)) d ≡ slice e (b + (e - to)) c = ap (slice e (b + (e - to))) q ∙ slice-above e (b + (e - to)) at (slice a to c) c (omega arith) in
         let v₂ : slice e (b + (e - to)) c ≡ slice to b buf = rw i at (moved to b (omega arith) (omega arith) (g .own)) in
-        let s : slice a to buf ++ slice to b buf ≡ slice a b buf = two (omega arith) (omega arith) in
+        let s : slice a to buf ++ slice to b buf ≡ slice a b buf = sym (cut-at buf a to b (omega arith) (omega arith)) in
         both (slice a to c ++ slice to b buf) (ap (λ z. z ++ slice to b buf) u ∙ s)
         (r ∙ ap (λ z. sets d (at + (to - a)) z) (v₁ ∙ v₂) ∙ ap (λ z. sets z (at + (to - a)) (slice to b buf)) q ∙ ap (λ z. sets (sets c at (slice a to c)) (at + z) (slice to b buf)) (sym w) ∙ sets-append c at (slice a to c) (slice to b buf))
-      where
-        two : a ≤ to → to ≤ b → slice a to buf ++ slice to b buf ≡ slice a b buf
-        two h k =
-            let i : a + (to - a) ≡ to = omega arith in
-            let m : to - a + (b - to) ≡ b - a = omega arith in
-            sym (sym (ap (λ z. take z (drop a buf)) m) ∙ take-add (to - a) (b - to) (drop a buf) ∙ rw (drop-drop, i) refl)

@@ -13,13 +13,14 @@ use lib.Dec.{eqb, ltb}
 use lib.ListN.{set as put, length, take, drop, getD, length-append, length-take, length-drop, drop-of-length-le}
 use lib.Seq.{drop-cons, sets, sets-eq, take-at, drop-at, take-append-add, take-all, take-take, take-append-le, length-sets, length-take-le}
 use borrow.Author.Tests.{eq-eqb, ne-eqb, ltb-true, ltb-false}
-use Rattle.buffers.specs.Laws.{sets-append}
+use Rattle.scan.specs.Paths.{drop-take}
+use Rattle.buffers.specs.Laws.{sets-append, sets-before}
 use Rattle.rules.specs.Bytes.{less}
 use Rattle.rules.specs.Laws.Bool.{or-elim, or-false-l, or-false-r}
+use Rattle.rules.specs.Laws.Sheet.{count-le}
 use Rattle.rules.specs.Sheet.{Value, text, nothing, dictionary, Records, end, rec, encode, count, word16Bytes, fieldBytes, fieldMask, valueBytes, valueMask, set}
 use Rattle.sheet.specs.Parts.{Part, slice, part-slice, length-slice}
-use Rattle.sheet.specs.Moves.{drop-take, slice-take, sets-before, take-stored}
-use Rattle.sheet.specs.Items.{count-le}
+use Rattle.sheet.specs.Moves.{slice-take, take-stored}
 use Rattle.sheet.specs.Order.{made, asked, asked-length, asked-getD}
 use Rattle.sheet.specs.Find.{Gives}
 use Rattle.sheet.specs.Place.{HasRecords, Placed, one, one-rec}
@@ -411,7 +412,7 @@ module _ {b : List ℕ} {n l : ℕ} (g : Bindable b n l) {name : List ℕ} {bit 
           long = ap length e ∙ length-sets b (p .from) (opening name bit size ++ (own ++ slice (p .to) n b));
           leaves = λ r q.
               let d = f .placed r q in
-              let t : drop (p .to) (take n b) ≡ slice (p .to) n b = drop-take (p .to) n b (omega (arith, d .inside, sheet-long)) in
+              let t : drop (p .to) (take n b) ≡ slice (p .to) n b = drop-take (p .to) n b in
               let u : take (p .from) (take n b) ≡ take (p .from) b = take-take (p .from) n b (omega (arith, d .on, d .inside, sheet-long)) in
               let x : encode (set r name v) ≡ take (p .from) b ++ (opening name bit size ++ (own ++ slice (p .to) n b)) = d .is v ∙ rw (u, t, one-opening name v bit size own w, append-assoc) refl in (
                 f .fits,
@@ -424,13 +425,13 @@ module _ {b : List ℕ} {n l : ℕ} (g : Bindable b n l) {name : List ℕ} {bit 
         e ≡ sets b (p .from) (opening name bit size ++ (own ++ slice (p .to) n b))
     bound-found i z =
         let l : p .head ≡ length (opening name bit size) = f .head ∙ sym (opening-length name bit size) in
-        z ∙ ap (λ w. sets w (p .from) (opening name bit size)) (i ∙ ap (λ w. sets b (p .from + w) (own ++ slice (p .to) n b)) l) ∙ sets-before (opening name bit size) (own ++ slice (p .to) n b) b (p .from)
+        z ∙ ap (λ w. sets w (p .from) (opening name bit size)) (i ∙ ap (λ w. sets b (p .from + w) (own ++ slice (p .to) n b)) l) ∙ sets-before b (p .from) (opening name bit size) (own ++ slice (p .to) n b)
 
     -- The tail, the value's own bytes, the opening.
     pub bound-slice : {c d e : List ℕ} → c ≡ sets b (p .from + p .head + len) (slice (p .to) n b) → d ≡ sets c (p .from + p .head) own → e ≡ sets d (p .from) (opening name bit size) →
         e ≡ sets b (p .from) (opening name bit size ++ (own ++ slice (p .to) n b))
     bound-slice {c} {d} {e} x y z =
-        let i : d ≡ sets b (p .from + p .head) (own ++ slice (p .to) n b) = y ∙ ap (λ w. sets w (p .from + p .head) own) (x ∙ ap (λ w. sets b (p .from + p .head + w) (slice (p .to) n b)) (sym k)) ∙ sets-before own (slice (p .to) n b) b (p .from + p .head) in
+        let i : d ≡ sets b (p .from + p .head) (own ++ slice (p .to) n b) = y ∙ ap (λ w. sets w (p .from + p .head) own) (x ∙ ap (λ w. sets b (p .from + p .head + w) (slice (p .to) n b)) (sym k)) ∙ sets-before b (p .from + p .head) own (slice (p .to) n b) in
         bound-found i z
 
 -- By what `find_room` answers.

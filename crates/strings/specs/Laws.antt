@@ -7,12 +7,12 @@ use Prim.Native.Char.{Char, code}
 use Prim.Native.Nat.{ℕ, zero, suc, _+_, _-_, _≤_, _<_}
 use native.Mathlib.Omega.{arith}
 use native.Mathlib.Numerals.{add-one, add-two}
-use native.Mathlib.Nat.{add-zero, le-refl}
+use native.Mathlib.Nat.{add-zero}
 use lib.Dec.{eqb, ltb}
 use lib.ListN.{length, take, drop, getD, length-drop, drop-of-length-le}
-use lib.Seq.{drop-cons, drop-drop, take-all}
+use lib.Seq.{drop-cons, drop-drop}
 use borrow.Author.Tests.{eq-eqb, ne-eqb}
-use Rattle.rules.specs.Reader.{Reader, ret, ifR, _>>=_, _>>_, the, but, either, span, sees, skip, rounds, Turn, again, stop}
+use Rattle.rules.specs.Reader.{Reader, ret, ifR, _>>=_, _>>_, the, but, either, span, sees, rounds, Turn, again, stop}
 use Rattle.rules.specs.Bytes.{word, lineBlank, letter, runByte, underscored}
 use Rattle.rules.specs.Strings.{escape, onto, literalFrom, literal, reference, plus, expressionRound, expression}
 use Rattle.rules.specs.Laws.Enough.{rounds-again, rounds-stop, expression-moving}
@@ -23,15 +23,13 @@ use Rattle.sheet.specs.declared.lookup.Found.the-variants.{Text}
 use Rattle.sheet.specs.Parts.{Part, part-slice}
 use Rattle.sheet.specs.Order.{asked}
 use Rattle.sheet.specs.Find.{IsSheet, Gives, foundText, gives-string}
+use Rattle.scan.specs.Laws.{seen, skip-at}
+use Rattle.scan.specs.Paths.{tail-part}
 use Rattle.scan.specs.Stretches.{span-stops}
-use Rattle.scan.specs.Sets.{plainByte, byteIs, Spans, Sees}
+use Rattle.scan.specs.Sets.{plainByte, Spans, Sees}
 use Rattle.buffers.specs.Put.{Put, Writer}
 use Rattle.buffers.specs.Laws.{put-none, put-then, put-writer, put-length}
 use Rattle.strings.specs.Read.{Wrote, IsTerm}
-
--- A part of a text that goes to its end.
-pub tail-part : (t : List ℕ) (k : ℕ) → take (length t - k) (drop k t) ≡ drop k t
-tail-part t k = take-all (length t - k) (drop k t) (rw length-drop (le-refl (length t - k)))
 
 onto-onto : (a b : List ℕ) (r : List ℕ × List ℕ) → onto a (onto b r) ≡ onto (a ++ b) r
 unfolding onto
@@ -169,20 +167,7 @@ module _ (s run : List ℕ) (f : Found) (told : (r : Records) → s ≡ encode r
   unfolding resolveString
   reference-none {room} {p} {b} e k i = rw (no-text s _ f (gives-run i) e k) (put-none room b p)
 
--- EXPRESSIONS. Reading one byte over.
-skip-at : (t : List ℕ) (i : ℕ) → i < length t → skip (drop i t) .1 ≡ drop (i + 1) t
-unfolding skip
-skip-at t i h = rw (add-one, drop-cons t i 0) refl
-
-pub seen : {p : ℕ → Bool} {t : List ℕ} {i : ℕ} {r v : Bool} → Sees p t i r → r ≡ v → Sees p t i v
-seen s e = rw e at s
-
--- What the scan of a byte says of the character.
-pub sees-char : (c : Char) {t : List ℕ} {i : ℕ} {r : Bool} → Sees (byteIs (code c)) t i r → Sees (the c) t i r
-unfolding the
-sees-char c s = s
-
--- A round of an expression, by what the scans said.
+-- EXPRESSIONS. A round of one, by what the scans said.
 module _ (look : List ℕ → List ℕ) (t : List ℕ) (i j : ℕ) (l : Spans lineBlank t i j) where
   round-literal : (k : ℕ) (a : List ℕ) → Sees (the "\"") t j true → literal (drop (j + 1) t) .1 ≡ drop k t → expressionRound look a (drop i t) ≡ plus look (a ++ literal (drop (j + 1) t) .0) (drop k t)
   unfolding expressionRound _>>=_ _>>_ ifR

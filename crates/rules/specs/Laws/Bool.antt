@@ -26,6 +26,12 @@ pub and-false-r : (a b : Bool) → a ≡ true → (a && b) ≡ false → b ≡ f
 and-false-r true b p h = h
 and-false-r false b p h = absurd (false≢true p)
 
+-- A conjunction of three, with a fourth that is true.
+pub and-three : (a b c : Bool) → (a && (b && true && c)) ≡ (a && b && c)
+and-three true true c = refl
+and-three true false c = refl
+and-three false b c = refl
+
 -- A disjunction is true if its left side is.
 pub or-i-l : (a b : Bool) → a ≡ true → (a || b) ≡ true
 or-i-l true b p = refl

@@ -8,7 +8,7 @@ use native.Mathlib.Nat.{sub-zero}
 use lib.Dec.{leb}
 use lib.ListN.{length, length-append}
 use Rattle.rules.specs.Answer.{Answer, refused, accepted, _>>=_, _>>_, check}
-use Rattle.rules.specs.Run.{Emit, ok, put, fail, pieces, Did, Trace, fin, step, written, final, write, limited}
+use Rattle.rules.specs.Run.{Emit, ok, put, fail, unrefused, pieces, Did, Trace, fin, step, written, final, write, limited}
 use Rattle.rules.specs.Laws.Bool.{true-leb, leb-true}
 use Rattle.rules.specs.Laws.Answer.{not-both, accepted-same, check-inv, check-true, bind-inv}
 
@@ -53,6 +53,13 @@ write-text full (fail k) r w = absurd (not-both w)
 write-text full (put c e) r {o} w =
     let i = write-inv full r c e w in
     sym (i .whole-is) ∙ ap (λ x. c ++ x) (write-text full e (r - length c) (i .write-later))
+
+-- What was written was not refused.
+pub written-unrefused : (full : ℕ) (e : Emit) (r : ℕ) {o : List ℕ} → write full r e ≡ accepted o → unrefused e ≡ true
+unfolding unrefused write
+written-unrefused full ok r w = refl
+written-unrefused full (fail k) r w = absurd (not-both w)
+written-unrefused full (put c e) r w = written-unrefused full e (r - length c) (write-inv full r c e w .write-later)
 
 pub write-fits : (full : ℕ) (e : Emit) (r : ℕ) {o : List ℕ} → write full r e ≡ accepted o → length o ≤ r
 unfolding write

@@ -12,20 +12,21 @@ use Rattle.rules.specs.Bytes.{ascii, word, nameByte, less, split}
 use Rattle.rules.specs.Layout.{Parser, bind, _>>=_, _>>_, pure, broken, require, bit, byte, word16, take, field, fieldIf}
 use Rattle.rules.specs.Sheet.{Value, text, nothing, dictionary, Records, end, rec, word16Bytes, fieldBytes, fieldMask, count, valueMask, valueBytes, encode, sheetLength, value, oneRecord, someRecords, allRecords, levels, decode, before, goodValue, goodRecords, sheetOf, get, getFields, getPieces, resolve, textOf, resolveString, set}
 use Rattle.rules.specs.Laws.Bool.{and-l, and-r, and-i, and-false-r, or-i-l, or-i-r, or-elim, or-false-l, or-false-r, not-true, true-leb, leb-true, true-ltb, ltb-true, false-ltb, true-eqb, eqb-true, false-eqb}
+use Rattle.rules.specs.Laws.Texts.{all-right}
 
 -- THE ORDER OF NAMES.
 -- Of two names that are not empty: by their first bytes, or, where these are equal, by the rest.
-less-elim : {P : Type 0} (x y : ℕ) (xs ys : List ℕ) → less (x ∷ xs) (y ∷ ys) ≡ true → (x < y → P) → (x ≡ y → less xs ys ≡ true → P) → P
+pub less-elim : {P : Type 0} (x y : ℕ) (xs ys : List ℕ) → less (x ∷ xs) (y ∷ ys) ≡ true → (x < y → P) → (x ≡ y → less xs ys ≡ true → P) → P
 unfolding less
 less-elim x y xs ys h f g =
     or-elim (ltb x y) (eqb x y && less xs ys) h (λ p. f (true-ltb x y p))
     (λ p. g (true-eqb x y (and-l (eqb x y) (less xs ys) p)) (and-r (eqb x y) (less xs ys) p))
 
-less-head : (x y : ℕ) (xs ys : List ℕ) → x < y → less (x ∷ xs) (y ∷ ys) ≡ true
+pub less-head : (x y : ℕ) (xs ys : List ℕ) → x < y → less (x ∷ xs) (y ∷ ys) ≡ true
 unfolding less
 less-head x y xs ys h = or-i-l (ltb x y) (eqb x y && less xs ys) (ltb-true x y h)
 
-less-tail : (x y : ℕ) (xs ys : List ℕ) → x ≡ y → less xs ys ≡ true → less (x ∷ xs) (y ∷ ys) ≡ true
+pub less-tail : (x y : ℕ) (xs ys : List ℕ) → x ≡ y → less xs ys ≡ true → less (x ∷ xs) (y ∷ ys) ≡ true
 unfolding less
 less-tail x y xs ys e h = or-i-r (ltb x y) (eqb x y && less xs ys) (and-i (eqb x y) (less xs ys) (eqb-true x y e) h)
 
@@ -260,7 +261,7 @@ get-set-other end n m v f = get-later n m v end f
 get-set-other (rec k w r) n m v f = get-set-other-at k n m v w r (less n k) (less k n) refl refl f (get-set-other r n m v f)
 
 -- WHAT IS WRITTEN IS READ BACK.
-word16-read : (n : ℕ) (b : List ℕ) → word16 (word16Bytes n ++ b) ≡ some (n, b)
+pub word16-read : (n : ℕ) (b : List ℕ) → word16 (word16Bytes n ++ b) ≡ some (n, b)
 unfolding word16 word16Bytes byte pure bind _>>=_
 word16-read n b = let e : n % 256 + 256 * (n / 256) ≡ n = omega arith in ap (λ z. some (z, b)) e
 
@@ -269,12 +270,12 @@ unfolding take byte pure bind _>>=_
 take-read [] b = refl
 take-read (x ∷ xs) b = rw (take-read xs b)
 
-field-read : (x : ℕ) (xs b : List ℕ) → field word16 (fieldBytes (x ∷ xs) ++ b) ≡ some (x ∷ xs, b)
+pub field-read : (x : ℕ) (xs b : List ℕ) → field word16 (fieldBytes (x ∷ xs) ++ b) ≡ some (x ∷ xs, b)
 unfolding field fieldBytes require empty pure bind _>>=_ _>>_
 field-read x xs b = rw (append-assoc, word16-read) (rw (take-read (x ∷ xs) b))
 
 -- The map byte says whether there is a name, and of which kind the value is.
-map-byte : (n : List ℕ) (v : Value) → (bit 0 (fieldMask 1 n + valueMask v) ≡ eqb (fieldMask 1 n) 1) × ((fieldMask 1 n + valueMask v) / 2 ≡ valueMask v / 2)
+pub map-byte : (n : List ℕ) (v : Value) → (bit 0 (fieldMask 1 n + valueMask v) ≡ eqb (fieldMask 1 n) 1) × ((fieldMask 1 n + valueMask v) / 2 ≡ valueMask v / 2)
 unfolding bit fieldMask valueMask
 map-byte [] (text []) = (refl, refl)
 map-byte [] (text (x ∷ xs)) = (refl, refl)
@@ -285,7 +286,7 @@ map-byte (y ∷ ys) (text (x ∷ xs)) = (refl, refl)
 map-byte (y ∷ ys) nothing = (refl, refl)
 map-byte (y ∷ ys) (dictionary r) = (refl, refl)
 
-name-read : (n b : List ℕ) → fieldIf (eqb (fieldMask 1 n) 1) word16 (fieldBytes n ++ b) ≡ some (n, b)
+pub name-read : (n b : List ℕ) → fieldIf (eqb (fieldMask 1 n) 1) word16 (fieldBytes n ++ b) ≡ some (n, b)
 unfolding fieldIf fieldMask fieldBytes pure
 name-read [] b = refl
 name-read (x ∷ xs) b = field-read x xs b
@@ -335,7 +336,7 @@ all-read (rec n v r) p l (suc k) c h =
     let g = good-parts n v r p l h in
     all-step (levels l) n v r k (value-read v l (encode r) (g .value)) (all-read r p l k (omega arith) (g .later))
 
-count-le : (r : Records) → count r ≤ length (encode r)
+pub count-le : (r : Records) → count r ≤ length (encode r)
 unfolding count encode
 count-le end = omega arith
 count-le (rec n v r) = simp length-append (omega (arith, count-le r))
@@ -349,11 +350,6 @@ decode-encode r p h = all-read r p 6 (length (encode r)) (count-le r) h
 -- A byte is a number below 256.
 unfoldable pub isByte : ℕ → Bool
 isByte x = ltb x 256
-
-all-rest : {A : Type 0} (p : A → Bool) (a b : List A) → all p (a ++ b) ≡ true → all p b ≡ true
-unfolding all
-all-rest p [] b h = h
-all-rest p (x ∷ xs) b h = all-rest p xs b (and-r (p x) (all p (xs ++ b)) h)
 
 word16-written : (b : List ℕ) (y : ℕ × List ℕ) → all isByte b ≡ true → word16 b ≡ some y → b ≡ word16Bytes (y .0) ++ y .1
 unfolding word16 word16Bytes byte pure bind _>>=_ all isByte
@@ -431,7 +427,7 @@ module _ (records : ℕ → Parser Records) (back : (n : ℕ) (b : List ℕ) (y 
       let i = bind-some (word16 b) (λ r. bind (records (r .0) (r .1)) (λ s. some (dictionary (s .0), s .1))) (rw (q₀, q₁, q₂, value) at h) in
       let j = bind-some (records (i .0 .0) (i .0 .1)) (λ s. some (dictionary (s .0), s .1)) (i .2) in
       let w = word16-written b (i .0) a (i .1) in
-      let r = back (i .0 .0) (i .0 .1) (j .0) (all-rest isByte (word16Bytes (i .0 .0)) (i .0 .1) (rw w at a)) (j .1) in
+      let r = back (i .0 .0) (i .0 .1) (j .0) (all-right isByte (word16Bytes (i .0 .0)) (i .0 .1) (rw w at a)) (j .1) in
       let e : (dictionary (j .0 .0), j .0 .1) ≡ y = cc (j .2) in
       let o = true-eqb k 2 q₂ in
       rw (← e) (dictionary-written (i .0 .0) b (i .0 .1) (j .0) w r, omega arith)
@@ -455,11 +451,11 @@ module _ (records : ℕ → Parser Records) (back : (n : ℕ) (b : List ℕ) (y 
       let j = bind-some (value records (m / 2) (i .0 .1)) (λ s. some ((i .0 .0, s .0), s .1)) (i .2) in
       let g = and-r (isByte m) (all isByte b) a in
       let n = name-written m b (i .0) g (i .1) in
-      let f = all-rest isByte (fieldBytes (i .0 .0)) (i .0 .1) (rw (n .0) at g) in
+      let f = all-right isByte (fieldBytes (i .0 .0)) (i .0 .1) (rw (n .0) at g) in
       let v = value-written (m / 2) (i .0 .1) (j .0) f (j .1) in
       let e : ((i .0 .0, j .0 .0), j .0 .1) ≡ y = cc (j .2) in
       let o : m ≡ fieldMask 1 (i .0 .0) + valueMask (j .0 .0) = omega arith in
-      rw (← e) (rw (← o, ← (v .0), ← (n .0)), all-rest isByte (valueBytes (j .0 .0)) (j .0 .1) (rw (v .0) at f))
+      rw (← e) (rw (← o, ← (v .0), ← (n .0)), all-right isByte (valueBytes (j .0 .0)) (j .0 .1) (rw (v .0) at f))
 
   records-written : (n : ℕ) (b : List ℕ) (y : Records × List ℕ) → all isByte b ≡ true → someRecords records n b ≡ some y → (count (y .0) ≡ n) × (b ≡ encode (y .0) ++ y .1)
   unfolding someRecords count encode pure _>>=_

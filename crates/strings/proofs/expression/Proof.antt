@@ -15,7 +15,8 @@ use Rattle.rules.specs.Sheet.{resolveString}
 use Rattle.sheet.specs.Find.{IsSheet}
 use Rattle.buffers.specs.Put.{Writer}
 use Rattle.buffers.specs.Laws.{put-length, put-writer}
-use Rattle.strings.specs.Laws.{ExpressionAt, sees-char, seen, expression-start, expression-none, expression-last, expression-again}
+use Rattle.scan.specs.Laws.{sees-the}
+use Rattle.strings.specs.Laws.{ExpressionAt, expression-start, expression-none, expression-last, expression-again}
 
 abbrev Inv-loop : tie.InvT-loop
 Inv-loop text sheet out₀ room p i₀ q₀ out i q = (i ≤ length text) × Writer room q × (length out ≡ length out₀) × ((s : IsSheet sheet) → ExpressionAt (resolveString (s .r)) room text out₀ p out q i)
@@ -45,7 +46,7 @@ same-length-2 : tie.Need-same-length-2 Inv-loop μ-loop
 same-length-2 c = put-length (c .before .before .before .before .before .before .before .term .ensures (c .before .before .before .before .before .before .before .before .before .before .before .before .before .pre .2) .put) ∙ c .before .before .before .before .before .before .before .before .before .loop .inv .2
 
 returns-2 : tie.Need-returns-2 Inv-loop μ-loop
-returns-2 c = λ s. expression-last (c .before .before .before .before .before .before .before .before .before .before .before .before .before .pre .0) (c .before .before .before .before .before .before .before .before .before .before .before .before .before .pre .1) (c .before .before .before .before .before .before .before .before .before .loop .inv .3 s) (c .before .before .before .before .before .before .before .term .ensures s) (not-false _ (c .before .before .before .if1 .left)) (c .before .before .span .ensures) (seen (sees-char "+" (c .before .at .ensures)) (not-true _ (c .if2 .taken)))
+returns-2 c = λ s. expression-last (c .before .before .before .before .before .before .before .before .before .before .before .before .before .pre .0) (c .before .before .before .before .before .before .before .before .before .before .before .before .before .pre .1) (c .before .before .before .before .before .before .before .before .before .loop .inv .3 s) (c .before .before .before .before .before .before .before .term .ensures s) (not-false _ (c .before .before .before .if1 .left)) (c .before .before .span .ensures) (sees-the "+" (c .before .at .ensures) (not-true _ (c .if2 .taken)))
 
 add-i : tie.Need-add-i Inv-loop μ-loop
 add-i c =
@@ -60,7 +61,7 @@ loop-less c =
 loop-again : tie.Need-loop-again Inv-loop μ-loop
 loop-again c =
     let h = c .before .at .ensures .there (not-false _ (c .if2 .left)) in
-    (omega arith, put-writer (c .before .before .before .before .before .before .before .term .ensures (c .before .before .before .before .before .before .before .before .before .before .before .before .before .pre .2) .put) (c .before .before .before .before .before .before .before .before .before .loop .inv .1), put-length (c .before .before .before .before .before .before .before .term .ensures (c .before .before .before .before .before .before .before .before .before .before .before .before .before .pre .2) .put) ∙ c .before .before .before .before .before .before .before .before .before .loop .inv .2, λ s. expression-again (c .before .before .before .before .before .before .before .before .before .before .before .before .before .pre .0) (c .before .before .before .before .before .before .before .before .before .before .before .before .before .pre .1) (c .before .before .before .before .before .before .before .before .before .loop .inv .3 s) (c .before .before .before .before .before .before .before .term .ensures s) (not-false _ (c .before .before .before .if1 .left)) (c .before .before .span .ensures) (seen (sees-char "+" (c .before .at .ensures)) (not-false _ (c .if2 .left))))
+    (omega arith, put-writer (c .before .before .before .before .before .before .before .term .ensures (c .before .before .before .before .before .before .before .before .before .before .before .before .before .pre .2) .put) (c .before .before .before .before .before .before .before .before .before .loop .inv .1), put-length (c .before .before .before .before .before .before .before .term .ensures (c .before .before .before .before .before .before .before .before .before .before .before .before .before .pre .2) .put) ∙ c .before .before .before .before .before .before .before .before .before .loop .inv .2, λ s. expression-again (c .before .before .before .before .before .before .before .before .before .before .before .before .before .pre .0) (c .before .before .before .before .before .before .before .before .before .before .before .before .before .pre .1) (c .before .before .before .before .before .before .before .before .before .loop .inv .3 s) (c .before .before .before .before .before .before .before .term .ensures s) (not-false _ (c .before .before .before .if1 .left)) (c .before .before .span .ensures) (sees-the "+" (c .before .at .ensures) (not-false _ (c .if2 .left))))
 
 pub expression-spec : {M : Type 1} → statement M
 expression-spec =

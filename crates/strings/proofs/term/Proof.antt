@@ -12,7 +12,8 @@ use mathlib.Core.Path.{_≡_, refl, sym, ap, _∙_}
 use native.Mathlib.Omega.{arith}
 use lib.ListN.{length, length-take, length-drop}
 use Rattle.buffers.specs.Laws.{put-length}
-use Rattle.strings.specs.Laws.{sees-char, seen, term-literal, term-reference, term-stop, tail-part}
+use Rattle.scan.specs.Laws.{sees-the}
+use Rattle.strings.specs.Laws.{term-literal, term-reference, term-stop}
 
 span-requires : tie.Need-span-requires
 span-requires c κs = search needs
@@ -55,7 +56,7 @@ same-length : tie.Need-same-length
 same-length c = put-length (c .before .before .before .literal .ensures .put)
 
 returns : tie.Need-returns
-returns c = λ s. term-literal _ (c .before .before .before .before .before .before .before .before .span .ensures) (sees-char "\"" (c .before .before .before .before .before .before .before .at .ensures)) (c .before .before .before .before .before .before .if1 .taken) (c .before .before .before .literal .ensures)
+returns c = λ s. term-literal _ (c .before .before .before .before .before .before .before .before .span .ensures) (sees-the "\"" (c .before .before .before .before .before .before .before .at .ensures) refl) (c .before .before .before .before .before .before .if1 .taken) (c .before .before .before .literal .ensures)
 
 sees-requires : tie.Need-sees-requires
 sees-requires c κs = search needs
@@ -79,10 +80,10 @@ same-length-2 : tie.Need-same-length-2
 same-length-2 c = put-length (c .before .before .reference .ensures (c .before .before .before .before .before .before .before .before .before .before .before .before .before .before .pre .3))
 
 returns-2 : tie.Need-returns-2
-returns-2 c = λ s. term-reference _ (c .before .before .before .before .before .before .before .before .before .before .span .ensures) (sees-char "\"" (c .before .before .before .before .before .before .before .before .before .at .ensures)) (c .before .before .before .before .before .before .before .before .if1 .left) (c .before .before .before .before .before .before .before .sees .ensures) (c .before .before .before .before .before .before .if2 .taken) (c .before .before .before .before .before .span2 .ensures) (c .before .before .reference .ensures s)
+returns-2 c = λ s. term-reference _ (c .before .before .before .before .before .before .before .before .before .before .span .ensures) (sees-the "\"" (c .before .before .before .before .before .before .before .before .before .at .ensures) refl) (c .before .before .before .before .before .before .before .before .if1 .left) (c .before .before .before .before .before .before .before .sees .ensures) (c .before .before .before .before .before .before .if2 .taken) (c .before .before .before .before .before .span2 .ensures) (c .before .before .reference .ensures s)
 
 returns-3 : tie.Need-returns-3
-returns-3 c = λ s. term-stop _ (c .before .before .before .before .span .ensures) (sees-char "\"" (c .before .before .before .at .ensures)) (c .before .before .if1 .left) (c .before .sees .ensures) (c .if2 .left)
+returns-3 c = λ s. term-stop _ (c .before .before .before .before .span .ensures) (sees-the "\"" (c .before .before .before .at .ensures) refl) (c .before .before .if1 .left) (c .before .sees .ensures) (c .if2 .left)
 
 pub term-spec : {M : Type 1} → statement M
 term-spec =

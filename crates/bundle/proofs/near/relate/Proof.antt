@@ -4,7 +4,7 @@ use Rattle.bundle.proofs.near.relate.Tie as tie
 use Rattle.bundle.proofs.near.relate.Reads as reads
 use Rattle.bundle.proofs.near.relate.Lts as lts
 use Rattle.bundle.proofs.near.above.Reads as above-reads
-use Rattle.bundle.proofs.near.same.Reads as same-reads
+use Rattle.scan.proofs.same.Reads as same-reads
 use Rattle.bundle.proofs.walk.path_of.Reads as path-of-reads
 use mathlib.Core.Path.{_≡_, _∙_}
 use Rattle.bundle.specs.Check.{start-length}

@@ -4,7 +4,7 @@ use Rattle.calls.proofs.args.argument.Tie as tie
 use Rattle.calls.proofs.args.argument.Reads as reads
 use Rattle.calls.proofs.args.argument.Lts as lts
 use Rattle.calls.proofs.args.language.Reads as language-reads
-use Rattle.calls.proofs.args.same.Reads as same-reads
+use Rattle.scan.proofs.same.Reads as same-reads
 use Rattle.scan.proofs.span.Reads as span-reads
 use Rattle.calls.specs.Args.{sets-language, sets-block, sets-nothing}
 

@@ -3,7 +3,7 @@ use Rattle.calls.proofs.link.put_link.Statement.{statement}
 use Rattle.calls.proofs.link.put_link.Tie as tie
 use Rattle.calls.proofs.link.put_link.Reads as reads
 use Rattle.calls.proofs.link.put_link.Lts as lts
-use Rattle.calls.proofs.args.same.Reads as same-reads
+use Rattle.scan.proofs.same.Reads as same-reads
 use Rattle.calls.proofs.link.put_box.Reads as put-box-reads
 use Rattle.calls.specs.Link.{linked-empty, linked-over, linked-same, linked-short, linked-boxed}
 

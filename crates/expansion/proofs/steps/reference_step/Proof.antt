@@ -11,7 +11,8 @@ use Rattle.scan.proofs.span.Reads as span-reads
 use Rattle.strings.proofs.reference.Reads as reference-reads
 use borrow.Author.Tests.{not-true, not-false}
 use Rattle.buffers.specs.Laws.{put-writer}
-use Rattle.strings.specs.Laws.{sees-char}
+use mathlib.Core.Path.{refl}
+use Rattle.scan.specs.Laws.{sees-the}
 use Rattle.expansion.specs.Reference.{refers-other, refers-called, refers-text}
 
 sees-requires : tie.Need-sees-requires
@@ -51,7 +52,7 @@ same-length-2 : tie.Need-same-length-2
 same-length-2 c = search needs
 
 returns-2 : tie.Need-returns-2
-returns-2 c = refers-called (c .before .before .before .before .before .before .before .before .before .before .before .before .before .sees .ensures) (c .before .before .before .before .before .before .before .before .before .before .before .before .before .before .before .before .before .pre .1) (c .before .before .before .before .before .before .before .before .before .before .before .before .before .before .before .before .before .pre .2) _ (not-false _ (c .before .before .before .before .before .before .before .before .before .before .before .before .if1 .left)) (c .before .before .before .before .before .before .before .before .before .before .before .span .ensures) (sees-char "(" (c .before .before .before .before .before .before .before .before .before .before .at .ensures)) (c .before .before .before .before .before .before .before .before .before .if2 .taken) (c .before .before .before .before .before .before .before .before .before .before .before .before .before .before .before .before .before .pre .3) (c .before .before .before .before .before .before .before .put-byte2 .ensures) (c .before .before .put .ensures)
+returns-2 c = refers-called (c .before .before .before .before .before .before .before .before .before .before .before .before .before .sees .ensures) (c .before .before .before .before .before .before .before .before .before .before .before .before .before .before .before .before .before .pre .1) (c .before .before .before .before .before .before .before .before .before .before .before .before .before .before .before .before .before .pre .2) _ (not-false _ (c .before .before .before .before .before .before .before .before .before .before .before .before .if1 .left)) (c .before .before .before .before .before .before .before .before .before .before .before .span .ensures) (sees-the "(" (c .before .before .before .before .before .before .before .before .before .before .at .ensures) refl) (c .before .before .before .before .before .before .before .before .before .if2 .taken) (c .before .before .before .before .before .before .before .before .before .before .before .before .before .before .before .before .before .pre .3) (c .before .before .before .before .before .before .before .put-byte2 .ensures) (c .before .before .put .ensures)
 
 sub-reference : tie.Need-sub-reference
 sub-reference c = search needs
@@ -69,7 +70,7 @@ same-length-3 : tie.Need-same-length-3
 same-length-3 c = search needs
 
 returns-3 : tie.Need-returns-3
-returns-3 c = refers-text (c .before .before .before .before .before .before .before .before .before .sees .ensures) (c .before .before .before .before .before .before .before .before .before .before .before .before .before .pre .1) (c .before .before .before .before .before .before .before .before .before .before .before .before .before .pre .2) _ (not-false _ (c .before .before .before .before .before .before .before .before .if1 .left)) (c .before .before .before .before .before .before .before .span .ensures) (sees-char "(" (c .before .before .before .before .before .before .at .ensures)) (c .before .before .before .before .before .if2 .left) (c .before .before .before .before .before .before .before .before .before .before .before .before .before .pre .4) (c .before .before .reference .ensures)
+returns-3 c = refers-text (c .before .before .before .before .before .before .before .before .before .sees .ensures) (c .before .before .before .before .before .before .before .before .before .before .before .before .before .pre .1) (c .before .before .before .before .before .before .before .before .before .before .before .before .before .pre .2) _ (not-false _ (c .before .before .before .before .before .before .before .before .if1 .left)) (c .before .before .before .before .before .before .before .span .ensures) (sees-the "(" (c .before .before .before .before .before .before .at .ensures) refl) (c .before .before .before .before .before .if2 .left) (c .before .before .before .before .before .before .before .before .before .before .before .before .before .pre .4) (c .before .before .reference .ensures)
 
 pub reference-step-spec : {M : Type 1} → statement M
 reference-step-spec =

@@ -11,7 +11,8 @@ use Rattle.scan.proofs.at.Reads as at-reads
 use Rattle.scan.proofs.span.Reads as span-reads
 use mathlib.Core.Path.{_≡_, sym, ap, _∙_}
 use borrow.Author.Tests.{not-true, not-false}
-use Rattle.includes.specs.Read.{same-read, copiedRead, source-plain, source-none, has-path, sees-paren}
+use Rattle.scan.specs.Laws.{sees-the}
+use Rattle.includes.specs.Read.{same-read, copiedRead, source-plain, source-none, has-path}
 
 span-requires : tie.Need-span-requires
 span-requires c κs = search needs
@@ -23,7 +24,7 @@ copied-requires : tie.Need-copied-requires
 copied-requires c κs = search needs
 
 returns : tie.Need-returns
-returns c = same-read (c .copied .ensures) (source-plain (c .before .before .before .before .before .pre .0) (c .before .before .before .before .before .pre .1) (c .before .before .before .span .ensures) (sees-paren (c .before .before .at .ensures) (not-true _ (c .before .if1 .taken))))
+returns c = same-read (c .copied .ensures) (source-plain (c .before .before .before .before .before .pre .0) (c .before .before .before .before .before .pre .1) (c .before .before .before .span .ensures) (sees-the "(" (c .before .before .at .ensures) (not-true _ (c .before .if1 .taken))))
 
 add-quote : tie.Need-add-quote
 add-quote c = search needs
@@ -40,10 +41,10 @@ copied-requires-2 : tie.Need-copied-requires-2
 copied-requires-2 c κs = search needs
 
 returns-2 : tie.Need-returns-2
-returns-2 c = same-read (c .copied2 .ensures ∙ ap (copiedRead _ _ _) (c .before .paired .ensures)) (source-none (c .before .before .before .before .before .before .before .before .before .pre .0) (c .before .before .before .before .before .before .before .before .before .pre .1) (c .before .before .before .before .before .before .before .span .ensures) (sees-paren (c .before .before .before .before .before .before .at .ensures) (not-false _ (c .before .before .before .before .before .if1 .left))) (c .before .before .before .before .quote .ensures) (not-true _ (c .before .before .if2 .taken)))
+returns-2 c = same-read (c .copied2 .ensures ∙ ap (copiedRead _ _ _) (c .before .paired .ensures)) (source-none (c .before .before .before .before .before .before .before .before .before .pre .0) (c .before .before .before .before .before .before .before .before .before .pre .1) (c .before .before .before .before .before .before .before .span .ensures) (sees-the "(" (c .before .before .before .before .before .before .at .ensures) (not-false _ (c .before .before .before .before .before .if1 .left))) (c .before .before .before .before .quote .ensures) (not-true _ (c .before .before .if2 .taken)))
 
 source-requires : tie.Need-source-requires
-source-requires c κs = (has-path (c .before .before .before .before .before .before .before .pre .0) (c .before .before .before .before .before .before .before .pre .1) (c .before .before .before .before .before .span .ensures) (sees-paren (c .before .before .before .before .at .ensures) (not-false _ (c .before .before .before .if1 .left))) (c .before .before .quote .ensures) (not-false _ (c .if2 .left)), c .before .before .before .before .before .before .before .pre .1)
+source-requires c κs = (has-path (c .before .before .before .before .before .before .before .pre .0) (c .before .before .before .before .before .before .before .pre .1) (c .before .before .before .before .before .span .ensures) (sees-the "(" (c .before .before .before .before .at .ensures) (not-false _ (c .before .before .before .if1 .left))) (c .before .before .quote .ensures) (not-false _ (c .if2 .left)), c .before .before .before .before .before .before .before .pre .1)
 
 returns-3 : tie.Need-returns-3
 returns-3 c = search needs

@@ -10,7 +10,7 @@ use native.Mathlib.Omega.{arith}
 use Prim.Native.Nat.{_+_, _-_}
 use lib.ListN.{take, drop}
 use lib.Seq.{sets}
-use Rattle.sheet.specs.Moves.{drop-take}
+use Rattle.scan.specs.Paths.{drop-take}
 
 move-down-requires : tie.Need-move-down-requires
 move-down-requires c κs = search needs
@@ -21,7 +21,7 @@ same-length c = search needs
 returns : tie.Need-returns
 returns c =
     let a = c .before .before .before .before .before .before .args in
-    c .before .before .move-down .ensures ∙ ap (λ z. sets (a .buf .now) (a .to) z) (drop-take (a .from) (a .end) (a .buf .now) (search needs))
+    c .before .before .move-down .ensures ∙ ap (λ z. sets (a .buf .now) (a .to) z) (drop-take (a .from) (a .end) (a .buf .now))
 
 sub-move-up : tie.Need-sub-move-up
 sub-move-up c = search needs
@@ -36,7 +36,7 @@ returns-2 : tie.Need-returns-2
 returns-2 c =
     let a = c .before .before .before .before .before .before .args in
     let e : a .from + (a .to - a .from) ≡ a .to = omega arith in
-    c .before .before .move-up .ensures ∙ ap (λ z. sets (a .buf .now) z (drop (a .from) (take (a .end) (a .buf .now)))) e ∙ ap (λ z. sets (a .buf .now) (a .to) z) (drop-take (a .from) (a .end) (a .buf .now) (search needs))
+    c .before .before .move-up .ensures ∙ ap (λ z. sets (a .buf .now) z (drop (a .from) (take (a .end) (a .buf .now)))) e ∙ ap (λ z. sets (a .buf .now) (a .to) z) (drop-take (a .from) (a .end) (a .buf .now))
 
 pub shift-spec : {M : Type 1} → statement M
 shift-spec =
