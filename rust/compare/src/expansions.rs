@@ -5,6 +5,7 @@ use crate::damage::damaged;
 use crate::rng::Rng;
 use crate::sheets;
 use crate::texts::{blanks, one, quoted, with_high_byte, word};
+use oracle::expansion::tree_length;
 use oracle::{Files, Tree, Value, bundle, sheet};
 
 const BLANKS: &[u8] = b"  \t\n\x0b\x0c\r";
@@ -187,12 +188,22 @@ impl Group {
         let n = *rng.pick(&[255, 256, 257, 300, 1000, 5000]);
         let mut text = rng.string(b"abc \n", n);
         self.piece(&mut text, rng);
-        if rng.one_in(20) {
+        if rng.one_in(12) {
             text.extend(b"#let y = ");
-            let n = rng.between(65_500, 65_540);
+            let n = self.long_value(rng);
             text.extend(rng.string(b"abc", n));
         }
         text
+    }
+
+    /// With a new name of one byte it fills the sheet, but for one byte, or is one too long; or its own length passes 16 bits.
+    fn long_value(&self, rng: &mut Rng) -> usize {
+        let filling = 65_535_usize.saturating_sub(tree_length(&self.tree) + 6);
+        match rng.below(6) {
+            0..3 => (filling + rng.below(3)).saturating_sub(1),
+            3 => rng.between(65_530, 65_536),
+            _ => 65_536 + rng.below(400),
+        }
     }
 
     /// What a reference may name.
@@ -466,7 +477,7 @@ fn value_at<'a>(tree: &'a Tree, path: &[u8]) -> Option<&'a Value> {
 fn tree(rng: &mut Rng) -> Tree {
     match rng.below(150) {
         0 => {
-            let n = rng.between(65_480, 65_535);
+            let n = if rng.one_in(2) { 65_535 } else { rng.between(65_480, 65_534) };
             sheets::filled(rng, n)
         }
         1..8 => Tree::new(),
