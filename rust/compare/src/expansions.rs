@@ -4,12 +4,14 @@ use crate::bundles::{changed, edge, fits};
 use crate::damage::damaged;
 use crate::rng::Rng;
 use crate::sheets;
-use crate::texts::{blanks, one, quoted, with_high_byte, word};
+use crate::texts::{blanks, one, parent, quoted, with_high_byte, word};
 use oracle::expansion::tree_length;
 use oracle::{Files, Tree, Value, bundle, sheet};
 
 const BLANKS: &[u8] = b"  \t\n\x0b\x0c\r";
 const LINE_BLANKS: &[u8] = b"  \t\x0b\x0c\r";
+/// On both sides of the blanks.
+const NO_BLANKS: &[u8] = b"\x08\x0e\x1c\x1f!\0";
 const RUN: &[u8] = b"abxyAZ019_-.";
 
 /// Text between the marks; also what is nearly a mark, and marks with more behind them.
@@ -113,6 +115,8 @@ pub struct Group {
     /// Paths that lead to values of the tree, and of these the ones to texts with their texts.
     paths: Vec<Vec<u8>>,
     texts: Vec<(Vec<u8>, Vec<u8>)>,
+    /// Paths that lead to dictionaries, with their keys.
+    dictionaries: Vec<(Vec<u8>, Vec<Vec<u8>>)>,
     file_paths: Vec<Vec<u8>>,
 }
 
@@ -127,10 +131,15 @@ impl Group {
             Some(Value::Text(text)) => Some((path.clone(), text.clone())),
             _ => None,
         };
+        let keys_of = |path: &[u8]| match value_at(&tree, path) {
+            Some(Value::Dictionary(entries)) => Some((path.to_vec(), entries.keys().cloned().collect())),
+            _ => None,
+        };
         let texts = paths.iter().filter_map(text_of).collect();
+        let dictionaries = paths.iter().flat_map(|path| starts(path)).filter_map(keys_of).collect();
         let files = files(rng);
         let file_paths = files.keys().cloned().collect();
-        Group { files, tree, paths, texts, file_paths }
+        Group { files, tree, paths, texts, dictionaries, file_paths }
     }
 
     /// The files as a bundle.
@@ -229,7 +238,20 @@ impl Group {
         text.extend(word(&["", "", "", " ", "\n", "(", "(x)", "()", " (", "#", "/", ",", "[t]", "\\", ";"], rng));
     }
 
+    /// A name for a dictionary, and mostly a reference to a key of it by that name.
+    fn dictionary_binding(&self, text: &mut Vec<u8>, rng: &mut Rng) {
+        let (path, keys) = rng.pick(&self.dictionaries);
+        let name = self.let_name(rng);
+        text.extend([b"#let ", &name[..], b" = ", path, b"\n"].concat());
+        if !keys.is_empty() && !rng.one_in(3) {
+            text.extend([b"#", &name[..], b".", &one(keys, rng)].concat());
+        }
+    }
+
     fn binding(&self, text: &mut Vec<u8>, rng: &mut Rng) {
+        if !self.dictionaries.is_empty() && rng.one_in(4) {
+            return self.dictionary_binding(text, rng);
+        }
         text.extend(b"#let");
         if !rng.one_in(12) {
             text.push(b' ');
@@ -238,9 +260,7 @@ impl Group {
         text.extend(self.let_name(rng));
         text.extend(word(&EQUALS, rng));
         text.extend(self.let_value(rng));
-        if rng.one_in(3) {
-            blanks(text, LINE_BLANKS, rng);
-        }
+        some_blanks(text, LINE_BLANKS, rng);
         if !rng.one_in(12) {
             text.push(b'\n');
         }
@@ -272,9 +292,8 @@ impl Group {
 
     fn let_value(&self, rng: &mut Rng) -> Vec<u8> {
         match rng.below(30) {
-            0..9 => one(&self.paths, rng),
-            9..13 => shortened(one(&self.paths, rng), rng),
-            13 => hyphened(one(&self.paths, rng), rng),
+            0..12 => one(&self.paths, rng),
+            12 | 13 => hyphened(one(&self.paths, rng), rng),
             14..17 => word(&LOCALS, rng).to_vec(),
             17..28 => word(&VALUES, rng).to_vec(),
             28 => self.run(rng),
@@ -320,7 +339,13 @@ impl Group {
                 self.terms(text, rng);
             }
             10..15 => text.extend(self.run(rng)),
-            15..19 => self.read(text, rng),
+            15..18 => self.read(text, rng),
+            // Only a literal begins an expression here: it stalls.
+            18 if rng.one_in(3) => {
+                text.extend(self.run(rng));
+                self.terms(text, rng);
+            }
+            18 => self.read(text, rng),
             _ => text.extend(word(&["", "readme", "reads(\"a\")", "rea", "read", "READ(\"a\")", "<x>", "none"], rng)),
         }
     }
@@ -328,9 +353,11 @@ impl Group {
     /// More of an expression.
     fn terms(&self, text: &mut Vec<u8>, rng: &mut Rng) {
         for _ in 0..rng.between(1, 3) {
-            some_blanks(text, LINE_BLANKS, rng);
+            // A newline ends the expression.
+            let set = if rng.one_in(12) { BLANKS } else { LINE_BLANKS };
+            some_blanks(text, set, rng);
             text.push(b'+');
-            some_blanks(text, LINE_BLANKS, rng);
+            some_blanks(text, set, rng);
             if rng.one_in(2) {
                 literal(text, rng);
             } else {
@@ -376,8 +403,11 @@ impl Group {
             1 => path = edge(rng).into_iter().filter(|c| c.is_ascii() && *c != b'"').collect(),
             2 => drop(path.pop()),
             3 => path.extend(word(&["x", "/x", "-", "/b"], rng)),
-            4 => path = word(&["d", "d/e", "n", "d/n", "/n", "B"], rng).to_vec(),
-            5..18 => path.insert(0, b'/'),
+            4 => path = word(&["n", "d/n", "/n", "B"], rng).to_vec(),
+            5 => path = parent(&path).to_vec(),
+            6 => path.insert(0, *rng.pick(BLANKS)),
+            7 => path.push(*rng.pick(BLANKS)),
+            8..20 => path.insert(0, b'/'),
             _ => {}
         }
         if let Some((known, _)) = self.texts.iter().find(|(_, text)| *text == path)
@@ -473,6 +503,11 @@ fn value_at<'a>(tree: &'a Tree, path: &[u8]) -> Option<&'a Value> {
     })
 }
 
+/// The path, and each part of it before a `.`.
+fn starts(path: &[u8]) -> impl Iterator<Item = &[u8]> {
+    (0..=path.len()).filter(|&i| i == path.len() || path[i] == b'.').map(|i| &path[..i])
+}
+
 /// Mostly one of `sheets`; else one that a text here is likely to name; some few as long as a sheet may be.
 fn tree(rng: &mut Rng) -> Tree {
     match rng.below(150) {
@@ -547,15 +582,6 @@ fn content(rng: &mut Rng) -> Vec<u8> {
     }
 }
 
-/// The path without its last pieces, so that it leads to a dictionary.
-fn shortened(mut path: Vec<u8>, rng: &mut Rng) -> Vec<u8> {
-    let dots: Vec<usize> = (0..path.len()).filter(|&i| path[i] == b'.').collect();
-    if !dots.is_empty() {
-        path.truncate(*rng.pick(&dots));
-    }
-    path
-}
-
 /// The path with some `_` made `-`.
 fn hyphened(mut path: Vec<u8>, rng: &mut Rng) -> Vec<u8> {
     for c in &mut path {
@@ -589,10 +615,13 @@ fn literal(text: &mut Vec<u8>, rng: &mut Rng) {
     }
 }
 
-/// Mostly none.
+/// Mostly none; at times a byte that is nearly a blank.
 fn some_blanks(text: &mut Vec<u8>, set: &[u8], rng: &mut Rng) {
     if rng.one_in(4) {
         blanks(text, set, rng);
+    }
+    if rng.one_in(100) {
+        text.push(*rng.pick(NO_BLANKS));
     }
 }
 

@@ -281,7 +281,7 @@ fn joined(folder: &[u8], path: &[u8]) -> Vec<u8> {
     if folder.is_empty() { path.to_vec() } else { [folder, b"/", path].concat() }
 }
 
-fn parent(path: &[u8]) -> &[u8] {
+pub fn parent(path: &[u8]) -> &[u8] {
     path.iter().rposition(|&c| c == b'/').map_or(b"", |i| &path[..i])
 }
 
