@@ -57,7 +57,7 @@ pub fn record(case: &Case, wanted: &Result<(Vec<u8>, Vec<u8>), u8>) -> Record {
 }
 
 pub fn cases() -> Vec<Record> {
-    let all = [starred(), readings(), bindings(), rooms(), paths(), bytes(), broken()].concat();
+    let all = [starred(), readings(), classes(), bindings(), names(), rooms(), paths(), bytes(), broken()].concat();
     all.iter().map(|case| record(case, &wanted(case))).collect()
 }
 
@@ -108,7 +108,7 @@ fn starred() -> Vec<Case> {
 }
 
 /// Texts with x, x_y, a none n and a dictionary d.
-const TEXTS: [&str; 118] = [
+const TEXTS: [&str; 129] = [
     "",
     "x\ny\n",
     "#",
@@ -128,6 +128,17 @@ const TEXTS: [&str; 118] = [
     "#d.",
     "#d.e.k",
     "#d.e.k.k",
+    "#d.x#d.n#d.e.x",
+    "#rawx#linked",
+    "#raw(\"a\nb\")",
+    "#raw(\"a\",x-y: z)",
+    "#raw(\"a\",langs: x,block:true)",
+    "#raw(\"a\",block:TRUE)",
+    "#raw(\"a\",blocks: true)",
+    "#let _ = 1\n#link(_ + x)",
+    "#link(x\n+ x)[t]",
+    "#link(x + \n\"u\")[t]",
+    "#let Z9 = Z\n#Z9",
     "#x(",
     "#x (",
     "#x-y.(z)",
@@ -244,6 +255,45 @@ fn readings() -> Vec<Case> {
         if line.contains("#let") {
             all.extend(around(&no_files(), sheet, line, &[(1, -1)]));
         }
+    }
+    all
+}
+
+/// Bytes on both sides of each class: blanks, line blanks, letters, digits, and those of names and runs.
+fn classes() -> Vec<Case> {
+    let sheet = encoded(&[("x", text("10"))]);
+    let mut all = Vec::new();
+    for c in "\x08\t\n\x0b\x0c\r\x0e\x1c\x1f !".chars() {
+        for line in
+            [format!("#raw{c}({c}x{c})"), format!("#let{c}y{c}={c}x{c}\n#y"), format!("#link({c}x{c}+{c}x{c}){c}[t]")]
+        {
+            all.extend(around(&no_files(), &sheet, &line, &[(0, 0)]));
+        }
+    }
+    for c in "/09:@AZ[^_`az{-.".chars() {
+        for line in [format!("#let x{c} = 1\n#x{c}|"), format!("#{c}#raw(x,x{c}:y)"), format!("#link({c}x)")] {
+            all.extend(around(&no_files(), &sheet, &line, &[(0, 0)]));
+        }
+    }
+    all
+}
+
+/// Names that are alike for long, that `-` and `_` put in different places, and below each other.
+fn names() -> Vec<Case> {
+    let sheet = encoded(&[("a0", text("1")), ("aZ", text("x")), ("aa", text("3")), ("x", text("10"))]);
+    let mut all = Vec::new();
+    for line in ["#let a- = x\n", "#let a-b = x\n#a_b", "#aZ#raw(aZ)#link(aZ)[x]", "#let aZ = aZ\n#aZ"] {
+        all.extend(around(&no_files(), &sheet, line, &[(0, 0)]));
+    }
+    let long = "n".repeat(255);
+    all.extend(around(&no_files(), &sheet, &format!("#let {long}a = 1\n#let {long}b = 2\n#{long}a"), &[(0, 0)]));
+    let mut nested = text("end");
+    for _ in 0..6 {
+        nested = Value::Dictionary(tree(&[("k", nested)]));
+    }
+    let deep = encoded(&[("k", nested)]);
+    for line in ["#k.k.k.k.k.k.k", "#k.k.k.k.k.k.k.k", "#let y = k.k.k\n#y.k.k.k.k", "#let k = k.k\n#k.k.k.k.k.k"] {
+        all.extend(around(&no_files(), &deep, line, &[(0, 0)]));
     }
     all
 }
