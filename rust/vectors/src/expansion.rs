@@ -108,7 +108,7 @@ fn starred() -> Vec<Case> {
 }
 
 /// Texts with x, x_y, a none n and a dictionary d.
-const TEXTS: [&str; 129] = [
+const TEXTS: [&str; 130] = [
     "",
     "x\ny\n",
     "#",
@@ -139,6 +139,7 @@ const TEXTS: [&str; 129] = [
     "#link(x\n+ x)[t]",
     "#link(x + \n\"u\")[t]",
     "#let Z9 = Z\n#Z9",
+    "#let 9 = 1\n#link(9)#raw(9)#raw(\"a\" + 9)",
     "#x(",
     "#x (",
     "#x-y.(z)",
