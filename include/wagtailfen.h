@@ -2,13 +2,14 @@
  * `rt staticlib wagtailfen` makes. Written for x86-64.
  *
  * A slice is a pointer and then a length. The pointer of an empty slice is not null either: any aligned address that is
- * not null will do. A buffer that is written (out) overlaps no other slice of the call.
+ * not null will do. A buffer that is written (out, left) overlaps no other slice of the call.
  *
  * Each answer begins with a number: 0 accepted, else the refusal of document 01, section 8:
- *   2 bundle breaks its layout        6 byte from 128 in a text or opened file
- *   3 sheet breaks its layout         7 seventh include level
- *   4 path or folder rule broken     11 output buffer too short
- *   5 file absent
+ *   2 bundle breaks its layout        7 seventh include level
+ *   3 sheet breaks its layout         8 raw round that moves by nothing
+ *   4 path or folder rule broken      9 sheet longer than its buffer, or than 65,535 bytes
+ *   5 file absent                    11 output buffer too short
+ *   6 byte from 128 in a text or opened file
  * Refused: the other fields are 0 and every byte of a buffer that is written is 0.
  */
 #ifndef WAGTAILFEN_H
@@ -57,6 +58,21 @@ struct wf_found wf_find_file(const uint8_t *bundle, size_t bundle_len, const uin
  * what is written, and 4, 5, 7, 6, in this order, for a file. */
 struct wf_text wf_resolve_includes(const uint8_t *bundle, size_t bundle_len, const uint8_t *folder, size_t folder_len,
                                    const uint8_t *text, size_t text_len, uint8_t *out, size_t out_len);
+
+/* An expansion: the first len bytes of out, the first sheet_len bytes of left, and 0 behind them. */
+struct wf_expanded {
+    uint8_t number;
+    size_t len;
+    size_t sheet_len;
+};
+
+/* The text with its references and its calls of #raw and #link expanded, and the sheet with the text's own bindings in left. sheet is
+ * the one that the text begins with; #raw(read(...)) reads files of the bundle. Refusals 2, 3, 6 for the arguments, and 9 where the
+ * sheet given is longer than left; then whichever comes first in reading: 9 for the sheet behind a #let, 11 for what is written, and
+ * for a raw call 4, 5, 6 of its file, then 8. A left longer than 65,535 bytes counts as 65,535. */
+struct wf_expanded wf_preprocess_typst(const uint8_t *bundle, size_t bundle_len, const uint8_t *text, size_t text_len,
+                                       const uint8_t *sheet, size_t sheet_len, uint8_t *out, size_t out_len,
+                                       uint8_t *left, size_t left_len);
 
 #ifdef __cplusplus
 }

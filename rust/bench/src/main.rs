@@ -1,9 +1,13 @@
 //! Times the proved calls on the same inputs as the Rust reference, or alone where it has no such call.
+//!
+//!     bench [NAME]        one table alone: lookups, files, includes, expansion
 
+mod expansion;
 mod includes;
 mod timing;
 
 use oracle::{Context, Files, Tree, Value, bundle, sheet};
+use std::env;
 use std::hint::black_box;
 use timing::times;
 use wagtailfen::{find_file, resolve, resolve_string};
@@ -18,30 +22,46 @@ rest    here less check
 Rust    the reference's call of that name. Its hash maps are built once, outside of the timed loop, and it checks nothing
 The output here is one lent buffer of 64 bytes, cleared by the call alone; the Rust answers a new String.";
 
+const TABLES: [(&str, fn()); 4] =
+    [("lookups", lookup_table), ("files", file_table), ("includes", includes::table), ("expansion", expansion::table)];
+
 fn main() {
     if cfg!(debug_assertions) {
         println!("NOT a release build\n");
     }
+    let name = env::args().nth(1);
+    for (_, table) in TABLES.iter().filter(|(table, _)| name.as_ref().is_none_or(|name| name == table)) {
+        table();
+    }
+}
+
+fn lookup_table() {
     println!("{NOTES}\n");
     println!("bindings   bytes  call            path       here     check      rest      Rust     ratio");
     SIZES.into_iter().for_each(lookups);
+}
+
+fn file_table() {
     println!("\nfind_file (the reference has no such call)");
     println!(" entries   bytes  path                       here     check      rest");
     SIZES.into_iter().for_each(files);
-    includes::table();
 }
 
 /// Bindings of ten seconds each.
 fn bindings(count: usize) -> Tree {
-    let binding = |i: usize| (format!("limit_{i:04}").into_bytes(), Value::Text(b"ten seconds".to_vec()));
+    let binding = |i: usize| (place(i).into_bytes(), Value::Text(b"ten seconds".to_vec()));
     (0..count).map(binding).collect()
+}
+
+/// The name of a binding by its place.
+fn place(i: usize) -> String {
+    format!("limit_{i:04}")
 }
 
 fn lookups(count: usize) {
     let tree = bindings(count);
     let sheet = sheet::encode(&tree).expect("a sheet");
     let context = Context::new(&tree).expect("a context");
-    let place = |i: usize| format!("limit_{i:04}");
     let mut paths = vec![("first", place(0)), ("middle", place(count / 2)), ("last", place(count - 1))];
     paths.dedup_by(|a, b| a.1 == b.1);
     paths.push(("missing", "lost".into()));

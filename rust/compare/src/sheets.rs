@@ -117,7 +117,7 @@ fn with_long_text(rng: &mut Rng) -> Tree {
 }
 
 /// A tree whose sheet has exactly n bytes.
-fn filled(rng: &mut Rng, n: usize) -> Tree {
+pub fn filled(rng: &mut Rng, n: usize) -> Tree {
     const FILLER: &[u8] = b"zzzz";
     let mut tree = records(rng, KEPT, 1, false);
     let taken = encode(&tree).expect("short").len() + 1 + 2 + FILLER.len() + 2;
@@ -142,7 +142,7 @@ pub fn path(tree: &Tree, rng: &mut Rng) -> Vec<u8> {
 }
 
 /// Pieces that lead to a value.
-fn walk(tree: &Tree, rng: &mut Rng) -> Vec<Vec<u8>> {
+pub fn walk(tree: &Tree, rng: &mut Rng) -> Vec<Vec<u8>> {
     let mut pieces = Vec::new();
     let mut here = tree;
     while !here.is_empty() {

@@ -129,11 +129,11 @@ impl Group {
     }
 }
 
-fn one(paths: &[Vec<u8>], rng: &mut Rng) -> Vec<u8> {
+pub fn one(paths: &[Vec<u8>], rng: &mut Rng) -> Vec<u8> {
     rng.pick(paths).clone()
 }
 
-fn word<'a>(words: &[&'a str], rng: &mut Rng) -> &'a [u8] {
+pub fn word<'a>(words: &[&'a str], rng: &mut Rng) -> &'a [u8] {
     rng.pick(words).as_bytes()
 }
 
@@ -253,7 +253,7 @@ fn chain(files: &mut Files, folder: &[u8], rng: &mut Rng) {
 }
 
 /// The text with one byte more, or in the place of one where the text is long.
-fn with_high_byte(mut text: Vec<u8>, rng: &mut Rng) -> Vec<u8> {
+pub fn with_high_byte(mut text: Vec<u8>, rng: &mut Rng) -> Vec<u8> {
     let at = rng.below(text.len() + 1);
     if text.len() > 1000 {
         text.remove(at.min(text.len() - 1));
@@ -281,7 +281,7 @@ fn joined(folder: &[u8], path: &[u8]) -> Vec<u8> {
     if folder.is_empty() { path.to_vec() } else { [folder, b"/", path].concat() }
 }
 
-fn parent(path: &[u8]) -> &[u8] {
+pub fn parent(path: &[u8]) -> &[u8] {
     path.iter().rposition(|&c| c == b'/').map_or(b"", |i| &path[..i])
 }
 
@@ -406,7 +406,7 @@ fn filler(text: &mut Vec<u8>, rng: &mut Rng) {
     }
 }
 
-fn blanks(text: &mut Vec<u8>, set: &[u8], rng: &mut Rng) {
+pub fn blanks(text: &mut Vec<u8>, set: &[u8], rng: &mut Rng) {
     match rng.below(4) {
         0 => {}
         1 => {
@@ -417,7 +417,7 @@ fn blanks(text: &mut Vec<u8>, set: &[u8], rng: &mut Rng) {
     }
 }
 
-fn quoted(text: &mut Vec<u8>, inner: &[u8]) {
+pub fn quoted(text: &mut Vec<u8>, inner: &[u8]) {
     text.push(b'"');
     text.extend(inner);
     text.push(b'"');

@@ -1,4 +1,4 @@
-//! The calls that may hang or overflow the stack, in a child process with a time limit.
+//! The calls that may hang or overflow the stack, in a child process with a limit of time and of memory.
 //!
 //! The child is the running program once more: its `main` calls `serve_if_asked` before anything else. The parent unpacks
 //! the files, so that nothing is left behind where a child is killed.
@@ -13,6 +13,8 @@ use std::time::Duration;
 use std::{env, panic, thread};
 
 const ASKED: &str = "--oracle-child";
+/// Starts the program with a limit of its memory, in KiB: 2 GiB.
+const LIMITED: &str = "ulimit -v 2097152 && exec \"$0\" \"$1\"";
 
 /// A call of the reference. Sheets are bytes that can be read.
 #[derive(Clone, Copy, Debug)]
@@ -72,13 +74,18 @@ impl Runner {
     }
 
     pub fn run(&mut self, files: &Files, call: Call) -> io::Result<Answer> {
+        self.run_within(self.limit, files, call)
+    }
+
+    /// The same with a limit of its own. A child that is not running yet is started within it.
+    pub fn run_within(&mut self, limit: Duration, files: &Files, call: Call) -> io::Result<Answer> {
         let unpacked = Unpacked::new(files)?;
         let running = match &mut self.running {
             Some(running) => running,
             none => none.insert(Running::start()?),
         };
         let sent = send(&mut running.to, &request(unpacked.root(), call));
-        match sent.map(|()| running.from.recv_timeout(self.limit)) {
+        match sent.map(|()| running.from.recv_timeout(limit)) {
             Ok(Ok(answer)) => Ok(answer),
             Ok(Err(RecvTimeoutError::Timeout)) => {
                 self.running = None;
@@ -94,7 +101,9 @@ impl Runner {
 
 impl Running {
     fn start() -> io::Result<Running> {
-        let mut child = Command::new(env::current_exe()?)
+        let mut child = Command::new("sh")
+            .args(["-c", LIMITED])
+            .arg(env::current_exe()?)
             .arg(ASKED)
             .stdin(Stdio::piped())
             .stdout(Stdio::piped())

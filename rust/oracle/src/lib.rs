@@ -4,13 +4,16 @@
 //! - `resolve_includes`, `preprocess_typst`, `parse_definitions`: in this process, the files unpacked into a fresh folder.
 //!   They can hang, or overflow the stack: `child` runs them in a process of their own, with a time limit.
 //! - `resolve_includes_below`: the same with files that were unpacked before, for many texts.
-//! - `includes`: what 01 adds to `resolve_includes`: which calls are accepted, and the numbers of the others.
+//! - `preprocess_typst_below`: likewise.
+//! - `includes` and `expansion`: what 01 adds to `resolve_includes` and `preprocess_typst`: which calls are accepted, and the numbers
+//!   of the others.
 //! - `sheet` and `bundle`: bytes to trees and files, and back. `bundle::find` finds by path.
 //! - `layout`: the rules of 01 for bytes.
 
 mod anyhow;
 pub mod bundle;
 pub mod child;
+pub mod expansion;
 pub mod includes;
 pub mod layout;
 mod reader;
@@ -48,7 +51,12 @@ pub fn resolve_includes_below(unpacked: &Unpacked, folder: &str, text: &str) -> 
 
 /// The expanded text, and the bindings at its end.
 pub fn preprocess_typst(files: &Files, text: &str, context: &Context) -> Result<(String, Context), String> {
-    reference::expansion(unpacked(files)?.root(), text, context)
+    preprocess_typst_below(&unpacked(files)?, text, context)
+}
+
+/// The same with files that were unpacked before.
+pub fn preprocess_typst_below(unpacked: &Unpacked, text: &str, context: &Context) -> Result<(String, Context), String> {
+    reference::expansion(unpacked.root(), text, context)
 }
 
 /// The bindings of a definitions file.

@@ -1,20 +1,25 @@
-//! The lines with given answers: a JSON object each, of which the include calls are taken. The given answer is written, and must
-//! be the one that the oracle has.
-use crate::includes::{Case, record, wanted};
+//! The lines with given answers: a JSON object each. Taken are the include calls, and for the expansion call the passes over texts
+//! that include nothing. The given answer is written, and must be the one that the oracle has.
 use crate::record::Record;
+use crate::{expansion, includes};
 use std::{fs, io};
 
 /// Where a line gives no length of the buffer: so many bytes more than the text; for a refused call so many.
 const MORE: usize = 5;
 const ENOUGH: usize = 64;
 
-pub fn cases(path: &str) -> io::Result<Vec<Record>> {
+pub fn includes(path: &str) -> io::Result<Vec<Record>> {
     let lines = fs::read_to_string(path)?;
     let include_calls = lines.lines().filter(|line| value(line, "fn") == "includes");
-    Ok(include_calls.map(case).collect())
+    Ok(include_calls.map(include_case).collect())
 }
 
-fn case(line: &str) -> Record {
+pub fn expansions(path: &str) -> io::Result<Vec<Record>> {
+    let lines = fs::read_to_string(path)?;
+    Ok(lines.lines().filter(|line| value(line, "fn") == "pass").filter_map(expansion_case).collect())
+}
+
+fn include_case(line: &str) -> Record {
     let bytes = |key: &str| unhex(value(line, key));
     let number: u8 = value(line, "n").parse().expect("a number");
     let out = bytes("out");
@@ -23,10 +28,35 @@ fn case(line: &str) -> Record {
         "null" => enough,
         cap => cap.parse().expect("a length"),
     };
-    let case = Case { bundle: bytes("bundle"), folder: bytes("folder"), text: bytes("text"), room };
+    let case = includes::Case { bundle: bytes("bundle"), folder: bytes("folder"), text: bytes("text"), room };
     let given = if number == 0 { Ok(out) } else { Err(number) };
-    assert_eq!(wanted(&case), given, "{line}");
-    record(&case, &given)
+    assert_eq!(includes::wanted(&case), given, "{line}");
+    includes::record(&case, &given)
+}
+
+/// A pass whose text holds no mark of an include, with a middle buffer that is large enough and the empty folder: it is the expansion.
+fn expansion_case(line: &str) -> Option<Record> {
+    let bytes = |key: &str| unhex(value(line, key));
+    let (bundle, text, sheet) = (bytes("bundle"), bytes("text"), bytes("sheet"));
+    let [middle, out, left] = caps(line);
+    let included = str::from_utf8(&text).is_ok_and(|text| text.contains("include"));
+    if included || middle.is_some() || !bytes("folder").is_empty() {
+        return None;
+    }
+    let (written, longest) = expansion::lengths(&bundle, &text, &sheet);
+    let (out, left) = (out.unwrap_or(written + MORE), left.unwrap_or(longest + MORE));
+    let case = expansion::Case { bundle, text, sheet, out, left };
+    let number: u8 = value(line, "n").parse().expect("a number");
+    let given = if number == 0 { Ok((bytes("out"), bytes("left"))) } else { Err(number) };
+    assert_eq!(expansion::wanted(&case), given, "{line}");
+    Some(expansion::record(&case, &given))
+}
+
+/// The lengths of the three buffers of a pass, where they are given.
+fn caps(line: &str) -> [Option<usize>; 3] {
+    let list = line.split("\"caps\": [").nth(1).and_then(|rest| rest.split(']').next()).expect("caps");
+    let caps: Vec<Option<usize>> = list.split(", ").map(|cap| cap.parse().ok()).collect();
+    caps.try_into().expect("three lengths")
 }
 
 /// What stands behind the key, without quotes.

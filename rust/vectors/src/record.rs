@@ -5,6 +5,10 @@
 pub const LOOKUP: u8 = 0;
 /// Fields: bundle, folder, text, answer. The answer: number, the length of the buffer in 16 bits, the text.
 pub const INCLUDE: u8 = 1;
+/// Fields: bundle, text, sheet, answer for `out`, answer for `left`. Each answer is as that of `INCLUDE`: number, the length of the buffer
+/// in 16 bits, what the call writes to its start (for `out` the text, for `left` the sheet; nothing where it is refused). The number
+/// is the same in both. `len` and `sheet_len` are how many bytes stand there; behind them the buffer is zero.
+pub const EXPANSION: u8 = 2;
 
 pub struct Record(pub Vec<u8>);
 

@@ -5,6 +5,8 @@
 //! it). A refused call's other fields are 0, and so is every byte of its output.
 
 pub mod raw;
+#[cfg(feature = "standin")]
+mod standin;
 
 /// What a path names in a sheet.
 #[repr(C)]
@@ -29,6 +31,18 @@ pub struct Text {
     pub number: u8,
     /// How many bytes of the output it takes. Those behind it are 0.
     pub len: usize,
+}
+
+/// A text that was expanded, and the sheet that it leaves.
+#[repr(C)]
+#[derive(Clone, Copy, Debug, PartialEq, Eq)]
+pub struct Expanded {
+    /// 0 accepted; 2, 3, 4, 5, 6, 8, 9, 11.
+    pub number: u8,
+    /// How many bytes of the output the text takes. Those behind it are 0.
+    pub len: usize,
+    /// How many bytes of the sheet buffer the sheet takes. Those behind it are 0.
+    pub sheet_len: usize,
 }
 
 /// What a path is in a bundle.
@@ -86,6 +100,31 @@ pub fn resolve_includes(bundle: &[u8], folder: &[u8], text: &[u8], out: &mut [u8
         )
     }
 }
+
+/// Writes `text` with its references and its calls of `#raw` and `#link` expanded to the start of `out`, and the sheet with the text's
+/// own bindings to the start of `left`; 0 behind both. `sheet` is the one that the text begins with; files are read out of `bundle`.
+#[cfg(not(feature = "standin"))]
+pub fn preprocess_typst(bundle: &[u8], text: &[u8], sheet: &[u8], out: &mut [u8], left: &mut [u8]) -> Expanded {
+    // SAFETY: all slices can be read for their lengths, and their pointers are not null; `out` and `left` can be written for their
+    // lengths and overlap none of the others.
+    unsafe {
+        raw::wf_preprocess_typst(
+            bundle.as_ptr(),
+            bundle.len(),
+            text.as_ptr(),
+            text.len(),
+            sheet.as_ptr(),
+            sheet.len(),
+            out.as_mut_ptr(),
+            out.len(),
+            left.as_mut_ptr(),
+            left.len(),
+        )
+    }
+}
+
+#[cfg(feature = "standin")]
+pub use standin::preprocess_typst;
 
 /// What a number says (document 01, section 8).
 pub fn refusal(number: u8) -> &'static str {
@@ -160,6 +199,34 @@ mod tests {
         assert_eq!(call(b"#include \"..\"", 12), (4, vec![], true));
         assert_eq!(call(b"\x80", 12), (6, vec![], true));
         assert_eq!(resolve_includes(b"", b"", b"", &mut []), Text { number: 2, len: 0 });
+    }
+
+    #[test]
+    fn expansions() {
+        let bundle = b"\x01\0\x06\x01a\x01\0A";
+        let (mut out, mut left) = ([0xAA; 12], [0xAA; 40]);
+        let mut call = |text: &[u8], n: usize, l: usize| {
+            let here = preprocess_typst(bundle, text, SHEET, &mut out[..n], &mut left[..l]);
+            let (text, behind) = out[..n].split_at(here.len);
+            let (sheet, last) = left[..l].split_at(here.sheet_len);
+            let zero = behind.iter().chain(last).all(|&c| c == 0);
+            (here.number, text.to_vec(), sheet.to_vec(), zero)
+        };
+        let left = [SHEET, b"\x03\x01\0y\x02\x0010"].concat();
+        assert_eq!(call(b"#let y = x\n#y.", 12, 40), (0, vec![], left.clone(), true));
+        assert_eq!(call(b"#let y = x\n#y", 2, left.len()), (0, b"10".to_vec(), left.clone(), true));
+        assert_eq!(call(b"#raw(read(\"a\"))#x", 5, 40), (0, b"`A`10".to_vec(), SHEET.to_vec(), true));
+        assert_eq!(call(b"#link(\"u\")[t]", 12, 40), (11, vec![], vec![], true));
+        assert_eq!(call(b"#link(\"u\")[u]", 12, 40), (0, b"u".to_vec(), SHEET.to_vec(), true));
+        assert_eq!(call(b"#let y = x\n", 12, left.len() - 1), (9, vec![], vec![], true));
+        assert_eq!(call(b"", 12, SHEET.len() - 1), (9, vec![], vec![], true));
+        assert_eq!(call(b"#raw(\"a\" \"b\")", 12, 40), (8, vec![], vec![], true));
+        assert_eq!(call(b"#raw(read(\"n\"))", 12, 40), (5, vec![], vec![], true));
+        assert_eq!(call(b"#raw(read(\"..\"))", 12, 40), (4, vec![], vec![], true));
+        assert_eq!(call(b"\x80", 12, 40), (6, vec![], vec![], true));
+        let refused = |number| Expanded { number, len: 0, sheet_len: 0 };
+        assert_eq!(preprocess_typst(b"", b"", b"\x10", &mut [], &mut []), refused(2));
+        assert_eq!(preprocess_typst(bundle, b"", b"\x10", &mut [], &mut []), refused(3));
     }
 
     #[test]

@@ -1,6 +1,6 @@
 //! The C interface, as `include/wagtailfen.h` declares it. A slice is a pointer and then a length; the pointer is not null even
 //! where the slice is empty. Prefer the safe functions of this crate's root.
-use crate::{Found, Resolved, Text};
+use crate::{Expanded, Found, Resolved, Text};
 
 unsafe extern "C" {
     /// `struct wf_resolved wf_resolve(..)`
@@ -30,4 +30,18 @@ unsafe extern "C" {
         out: *mut u8,
         out_len: usize,
     ) -> Text;
+
+    /// `struct wf_expanded wf_preprocess_typst(..)`
+    pub fn wf_preprocess_typst(
+        bundle: *const u8,
+        bundle_len: usize,
+        text: *const u8,
+        text_len: usize,
+        sheet: *const u8,
+        sheet_len: usize,
+        out: *mut u8,
+        out_len: usize,
+        left: *mut u8,
+        left_len: usize,
+    ) -> Expanded;
 }

@@ -4,9 +4,11 @@ use crate::case::Case;
 use crate::rng::Rng;
 use std::fmt::Debug;
 
+mod expansion;
 mod files;
 mod includes;
 mod lookup;
+mod stalls;
 
 pub trait Mode {
     fn name(&self) -> &'static str;
@@ -35,6 +37,8 @@ pub fn all() -> Vec<Box<dyn Mode>> {
         Box::new(files::Find { damaged: true, disk: false }),
         Box::new(files::Find { damaged: false, disk: true }),
         Box::new(includes::Includes::default()),
+        Box::new(expansion::Expansion::default()),
+        Box::new(stalls::Stalls::new()),
     ]
 }
 
