@@ -1,7 +1,7 @@
 -- The run: plain text in spans between the `#` marks, and the step at each.
 use mathlib.Core.Path.{_≡_, refl, sym, ap, subst, _∙_}
 use mathlib.Core.List.{List, [], _∷_}
-use mathlib.Core.Bool.{Bool, true, false, not, _&&_, true≢false}
+use mathlib.Core.Bool.{Bool, true, false, not, _&&_, true≢false, and-true}
 use Prim.Native.Nat.{ℕ, zero, suc, _+_, _-_, _≤_, _<_}
 use native.Mathlib.Omega.{arith}
 use lib.Dec.{eqb}
@@ -14,8 +14,8 @@ use Rattle.rules.specs.Run.{Emit, ok, put, fail, andThen, unrefused, Did, Step,
 use Rattle.rules.specs.Files.{View}
 use Rattle.rules.specs.Sheet.{Records, sheetLength}
 use Rattle.rules.specs.Expansion.{writes, copyStep, expansionStep, expansion}
-use Rattle.rules.specs.Laws.Answer.{not-both}
-use Rattle.rules.specs.Laws.Limit.{write-inv}
+use Rattle.rules.specs.Laws.Bool.{and-three}
+use Rattle.rules.specs.Laws.Limit.{written-unrefused}
 use Rattle.rules.specs.Laws.Enough.{run-at}
 use Rattle.scan.specs.Sets.{part, Spans, Starts, notByte}
 use Rattle.scan.specs.Laws.{mark-of}
@@ -76,22 +76,6 @@ is-byte x c h = at (eqb x c) refl h
     at : (y : Bool) → eqb x c ≡ y → not y ≡ false → x ≡ c
     at true e z = eqb-true x c e
     at false e z = absurd (true≢false z)
-
--- What was written was not refused.
-written-unrefused : (full : ℕ) (e : Emit) (r : ℕ) {o : List ℕ} → write full r e ≡ accepted o → unrefused e ≡ true
-unfolding unrefused write
-written-unrefused full ok r h = refl
-written-unrefused full (put v e) r h = written-unrefused full e (r - length v) (write-inv full r v e h .write-later)
-written-unrefused full (fail k) r h = absurd (not-both h)
-
-and-true : (a : Bool) → (a && true) ≡ a
-and-true true = refl
-and-true false = refl
-
-and-three : (a b c : Bool) → (a && (b && true && c)) ≡ (a && b && c)
-and-three true true c = refl
-and-three true false c = refl
-and-three false b c = refl
 
 -- THE LOOP. s₀: the records given; t: the text, expanded up to i.
 module _ (limit full : ℕ) (v : View) (t b : List ℕ) (p : ℕ) where

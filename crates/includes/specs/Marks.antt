@@ -21,7 +21,8 @@ use Rattle.rules.specs.Laws.Enough.{run-step}
 use Rattle.scan.specs.Sets.{Spans, Starts, notByte}
 use Rattle.scan.specs.Laws.{but-yes, mark-of}
 use Rattle.scan.specs.Stretches.{spans-each}
-use Rattle.buffers.specs.Emits.{write-none, write-same, write-join}
+use Rattle.buffers.specs.Emits.{guarded-emitted}
+use Rattle.buffers.specs.Copies.{afterAll, copied, copied-part}
 
 -- The length of the mark at the start of a text; 0 where none stands there.
 unfoldable pub markLength : List ℕ → ℕ
@@ -39,10 +40,12 @@ pub record NextMark (t : List ℕ) (i j n : ℕ) : Type 0 where
   pub there : n ≡ markLength (drop j t)
   pub last : n ≡ 0 → j ≡ length t
 
--- The stretch behind h and the bytes of a text that are copied.
-unfoldable pub stretch : List ℕ → List ℕ → List ℕ
-stretch h [] = h
-stretch h (x ∷ xs) = stretch (elim (the "\n" x) [ true ↦ [] | false ↦ h ++ (x ∷ []) ]) xs
+-- The stretch behind h and a byte that is copied; and behind h and the bytes of a text.
+unfoldable pub stretchOn : List ℕ → ℕ → List ℕ
+stretchOn h x = elim (the "\n" x) [ true ↦ [] | false ↦ h ++ (x ∷ []) ]
+
+abbrev pub stretch : List ℕ → List ℕ → List ℕ
+stretch = afterAll stretchOn
 
 -- COPYING.
 no-mark : (t : List ℕ) (a b : Bool) → prefix (bytes "#include") t ≡ a → prefix (bytes "#source-include") t ≡ b → markLength t ≡ 0 → (a ≡ false) × (b ≡ false)
@@ -58,32 +61,9 @@ module _ (v : View) (inside : List ℕ → List ℕ → Emit) (g : List ℕ) whe
       let n = no-mark t (prefix (bytes "#include") t) (prefix (bytes "#source-include") t) refl refl m in
       rw (mark-of (bytes "#include") t false (n .0), mark-of (bytes "#source-include") t false (n .1)) refl
 
-  -- The steps that copy the bytes of a text, from h on, then what follows.
-  unfoldable copies : List ℕ → List ℕ → Trace (List ℕ) → Trace (List ℕ)
-  copies [] h u = u
-  copies (x ∷ xs) h u = step (copyByte h (x ∷ []) .0) (copies xs (stretch h (x ∷ [])) u)
-
-  run-copies : (t h : List ℕ) (n : ℕ) → n ≤ length t → ((k : ℕ) → k < n → markLength (drop k t) ≡ 0) →
-      run (includeStep v inside g) h 0 t ≡ copies (take n t) h (run (includeStep v inside g) (stretch h (take n t)) 0 (drop n t))
-  unfolding copies stretch copyByte
-  run-copies t h zero l m = refl
-  run-copies [] h (suc n) l m = absurd (omega arith)
-  run-copies (x ∷ xs) h (suc n) l m =
-      let s = copy-step h (x ∷ xs) (m 0 (omega arith)) in
-      run-step (includeStep v inside g) h x xs 0 (omega arith) (ap (λ z. z .1) s)
-      ∙ ap (λ z. step (z .0) (run (includeStep v inside g) (z .0 .state) 0 xs)) s
-      ∙ ap (step (copyByte h (x ∷ xs) .0)) (run-copies xs (stretch h (x ∷ [])) n (omega arith) (λ k z. m (suc k) (omega arith)))
-
-  copies-write : (full : ℕ) (p h : List ℕ) (u : Trace (List ℕ)) (r : ℕ) → write full r (emitted (copies p h u)) ≡ write full r (put p (emitted u))
-  unfolding copies emitted andThen copyByte
-  copies-write full [] h u r = sym (write-none full r (emitted u))
-  copies-write full (x ∷ xs) h u r =
-      write-same full r (x ∷ []) _ (put xs (emitted u)) (copies-write full xs (stretch h (x ∷ [])) u (r - 1)) ∙ write-join full r (x ∷ []) xs (emitted u)
-
-  copies-whole : (p h : List ℕ) (u : Trace (List ℕ)) → allWhole (copies p h u) ≡ allWhole u
-  unfolding copies allWhole copyByte unrefused
-  copies-whole [] h u = refl
-  copies-whole (x ∷ xs) h u = copies-whole xs (stretch h (x ∷ [])) u
+  copies-at : (t h : List ℕ) (k : ℕ) → k < length t → markLength (drop k t) ≡ 0 → includeStep v inside g h (drop k t) ≡ (copied stretchOn h (getD t k 0), drop (suc k) t)
+  unfolding copyByte copied stretchOn
+  copies-at t h k l m = copy-step h (drop k t) m ∙ rw (drop-cons t k 0 l) refl
 
   -- A stretch without marks: its bytes are one piece, and reading goes on behind it.
   pub record Plain (h t : List ℕ) (i j : ℕ) : Type 0 where
@@ -94,14 +74,10 @@ module _ (v : View) (inside : List ℕ → List ℕ → Emit) (g : List ℕ) whe
   plain h t i j m =
       let f = includeStep v inside g in
       let p = take (j - i) (drop i t) in
-      let a : i + (j - i) ≡ j = omega (arith, m .on) in
-      let d : drop (j - i) (drop i t) ≡ drop j t = drop-drop (j - i) i t ∙ ap (λ z. drop z t) a in
-      let e : run f h 0 (drop i t) ≡ copies p h (run f (stretch h p) 0 (drop j t)) =
-      run-copies (drop i t) h (j - i) (omega (arith, length-drop i t, m .inside)) (λ k z. ap markLength (drop-drop k i t) ∙ m .none (i + k) (omega arith) (omega arith))
-      ∙ ap (λ z. copies p h (run f (stretch h p) 0 z)) d in
+      let c = copied-part stretchOn f (λ h. 0) 0 (λ s x z. z) h t i j (m .on) (m .inside) refl (λ k s a b. copies-at t s k (omega (arith, m .inside)) (m .none k a b)) in
       record {
-        writes = λ full r. ap (λ z. write full r (emitted z)) e ∙ copies-write full p h (run f (stretch h p) 0 (drop j t)) r;
-        wholes = ap allWhole e ∙ copies-whole p h (run f (stretch h p) 0 (drop j t));
+        writes = λ full r. ap (write full r) (sym (guarded-emitted (run f h 0 (drop i t)))) ∙ c .writes full r ∙ ap (λ z. write full r (put p z)) (guarded-emitted (run f (stretch h p) 0 (drop j t)));
+        wholes = c .wholes;
       }
 
 -- SEARCHING for a mark. A mark begins with `#`.
@@ -167,19 +143,19 @@ pub record Line (t : List ℕ) (from at s : ℕ) : Type 0 where
   pub says : stretch [] (take (at - from) (drop from t)) ≡ take (at - s) (drop s t)
 
 stretch-append : (h a b : List ℕ) → stretch h (a ++ b) ≡ stretch (stretch h a) b
-unfolding stretch
+unfolding afterAll stretchOn
 stretch-append h [] b = refl
-stretch-append h (x ∷ xs) b = stretch-append (elim (the "\n" x) [ true ↦ [] | false ↦ h ++ (x ∷ []) ]) xs b
+stretch-append h (x ∷ xs) b = stretch-append (stretchOn h x) xs b
 
 stretch-line : (h b : List ℕ) → all (but "\n") b ≡ true → stretch h b ≡ h ++ b
-unfolding stretch all
+unfolding afterAll stretchOn all
 stretch-line h [] e = sym (append-nil h)
 stretch-line h (x ∷ xs) e =
-    rw (but-yes "\n" x (and-l (but "\n" x) (all (but "\n") xs) e), stretch) (stretch-line (h ++ (x ∷ [])) xs (and-r (but "\n" x) (all (but "\n") xs) e) ∙ append-assoc h (x ∷ []) xs)
+    rw (but-yes "\n" x (and-l (but "\n" x) (all (but "\n") xs) e), stretchOn) (stretch-line (h ++ (x ∷ [])) xs (and-r (but "\n" x) (all (but "\n") xs) e) ∙ append-assoc h (x ∷ []) xs)
 
 stretch-newline : (h b : List ℕ) (x : ℕ) → x ≡ 10 → stretch h (x ∷ b) ≡ stretch [] b
-unfolding stretch the
-stretch-newline h b x e = rw (eq-eqb x 10 e, stretch) refl
+unfolding afterAll stretchOn the
+stretch-newline h b x e = rw (eq-eqb x 10 e, stretchOn) refl
 
 -- No newline from i on.
 pub record Back (t : List ℕ) (from at i : ℕ) : Type 0 where
