@@ -20,7 +20,7 @@ use Rattle.rules.specs.Laws.Bool.{isSome, true-some, false-some}
 use Rattle.bundle.specs.Find.{entriesOf, entries-some}
 use Rattle.buffers.specs.Emits.{limited-write}
 use Rattle.includes.specs.Resolve.{Resolves}
-use Rattle.buffers.specs.Laws.{stored-first}
+use Rattle.builder.specs.Laws.{written-first}
 
 module _ (b g t : List ℕ) (n : ℕ) where
   pub includes-two : isSome (bundleOf b) ≡ false → resolveIncludesOf b g t n ≡ record { number = 2; len = 0; out = zeros n }
@@ -55,7 +55,6 @@ module _ (b g t : List ℕ) (n : ℕ) where
           unfolding outputAnswer
           includes-done e l {d} z =
               let s = r .emits .goes e in
-              let f : m ≡ length (s .text) = omega (arith, s .fills .place) in
-              let v : take m c ≡ s .text = s .fills .holds ∙ ap (λ x. take x (sets o 0 (s .text))) f ∙ stored-first o (s .text) (omega (arith, s .fits)) in
-              let u : padded n (s .text) ≡ d = sym (z ∙ ap (λ x. padded x (take m c)) (r .emits .size ∙ sym l) ∙ ap (padded n) v) in
-              in-reading ∙ ap (outputAnswer n) (rw sub-zero at (s .says)) ∙ λ i. record { number = 0; len = sym f i; out = u i }
+              let f = written-first s l in
+              let u : padded n (s .text) ≡ d = sym (z ∙ ap (λ x. padded x (take m c)) (r .emits .size ∙ sym l) ∙ ap (padded n) (f .1)) in
+              in-reading ∙ ap (outputAnswer n) (rw sub-zero at (s .says)) ∙ λ i. record { number = 0; len = sym (f .0) i; out = u i }

@@ -2,3 +2,5 @@ pub mod Text
 pub mod Laws
 pub mod Files
 pub mod Includes
+pub mod Given
+pub mod Expansion

@@ -3,10 +3,12 @@
 use sheet::lookup::Found;
 ghost use mathlib.Core.Path.{_≡_};
 ghost use lib.ListN.{length};
-ghost use Rattle.rules.specs.Calls.{resolveOf, resolveStringOf, resolveIncludesOf, findFileOf};
+ghost use Rattle.rules.specs.Calls.{resolveOf, resolveStringOf, resolveIncludesOf, preprocessTypstOf, findFileOf};
 ghost use Rattle.sheet.specs.Find.{foundKind};
 ghost use Rattle.builder.specs.Files.{fileAnswer};
-ghost use Rattle.builder.specs.Text.{TextAt, Gave, Refuses};
+ghost use Rattle.builder.specs.Text.{TextAt, Gave, Refuses, RefusesBoth};
+
+mod given;
 
 // A lookup's answer. Kind: 0 missing, 1 none, 2 text, 3 dictionary.
 #[repr(C)]
@@ -140,6 +142,58 @@ pub fn resolve_includes(bundle: &[u8], folder: &[u8], text: &[u8], out: &mut [u8
     Text {
         number: 0,
         len: end,
+    }
+}
+
+// An expansion's answer: the lengths of the text in the output buffer and of the sheet that is left.
+#[repr(C)]
+pub struct Expanded {
+    pub number: u8,
+    pub len: usize,
+    pub sheet: usize,
+}
+
+// The refusal of an expansion: every byte of both buffers zero.
+fn no_expansion(out: &mut [u8], left: &mut [u8], number: u8) -> Expanded
+    ensures { λ r. ⌜ RefusesBoth (now (out .entry)) (now (out .exit)) (now (left .entry)) (now (left .exit)) number (r .number) (r .len) (r .sheet) ⌝ }
+{
+    buffers::clear_from(out, 0);
+    buffers::clear_from(left, 0);
+    Expanded {
+        number: number,
+        len: 0,
+        sheet: 0,
+    }
+}
+
+// A text expanded, and the sheet with the text's bindings: 2, 3, 6, 9 for the sheet given, then in reading 9, 11, 8, 4, 5, 6.
+pub fn preprocess_typst(
+    bundle: &[u8],
+    text: &[u8],
+    sheet: &[u8],
+    out: &mut [u8],
+    left: &mut [u8],
+) -> Expanded
+    ensures { λ r. ⌜ preprocessTypstOf (now (bundle .entry)) (now (text .entry)) (now (sheet .entry)) (length (now (out .entry))) (length (now (left .entry))) ≡ record { number = r .number; len = r .len; sheetLen = r .sheet; out = now (out .exit); left = now (left .exit) } ⌝ }
+{
+    let limit = given::sheet_limit(left.len());
+    let number = given::refusal(bundle, b"", text, sheet, limit);
+    if number != 0 {
+        return no_expansion(out, left, number);
+    }
+    buffers::store(left, 0, sheet);
+    let r = expansion::expand(bundle, text, out, 0, left, sheet.len(), limit, 11);
+    if !r.ok {
+        return no_expansion(out, left, r.number);
+    }
+    let end = r.next;
+    let len = r.len;
+    buffers::clear_from(out, end);
+    buffers::clear_from(left, len);
+    Expanded {
+        number: 0,
+        len: end,
+        sheet: len,
     }
 }
 
