@@ -2,7 +2,7 @@
 // returned by value.
 ghost use mathlib.Core.Path.{_≡_};
 ghost use lib.ListN.{length};
-ghost use Rattle.rules.specs.Calls.{resolveOf, resolveStringOf, resolveIncludesOf, findFileOf};
+ghost use Rattle.rules.specs.Calls.{resolveOf, resolveStringOf, resolveIncludesOf, preprocessTypstOf, findFileOf};
 
 #[no_mangle]
 pub extern "C" fn wf_resolve(sheet: &[u8], path: &[u8]) -> builder::Resolved
@@ -28,6 +28,19 @@ pub extern "C" fn wf_resolve_includes(
     ensures { λ r. ⌜ resolveIncludesOf (now (bundle .entry)) (now (folder .entry)) (now (text .entry)) (length (now (out .entry))) ≡ record { number = r .number; len = r .len; out = now (out .exit) } ⌝ }
 {
     builder::resolve_includes(bundle, folder, text, out)
+}
+
+#[no_mangle]
+pub extern "C" fn wf_preprocess_typst(
+    bundle: &[u8],
+    text: &[u8],
+    sheet: &[u8],
+    out: &mut [u8],
+    left: &mut [u8],
+) -> builder::Expanded
+    ensures { λ r. ⌜ preprocessTypstOf (now (bundle .entry)) (now (text .entry)) (now (sheet .entry)) (length (now (out .entry))) (length (now (left .entry))) ≡ record { number = r .number; len = r .len; sheetLen = r .sheet; out = now (out .exit); left = now (left .exit) } ⌝ }
+{
+    builder::preprocess_typst(bundle, text, sheet, out, left)
 }
 
 #[no_mangle]
