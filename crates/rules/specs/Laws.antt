@@ -7,6 +7,7 @@ pub mod Steps
 pub mod Expansion
 pub mod Includes
 pub mod Enough
+pub mod Entries
 pub mod Texts
 pub mod Keep
 pub mod Middle

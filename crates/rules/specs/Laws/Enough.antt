@@ -77,21 +77,21 @@ pub record Moves {S A : Type 0} (r : Reader (Turn S A)) : Type 0 where
   pub moves : (s : S) (t : List ℕ) → r t .0 ≡ again s → length (r t .1) < length t
 
 module _ {A : Type 0} where
-  shrinks-ret : (a : A) → Shrinks (ret a)
+  pub shrinks-ret : (a : A) → Shrinks (ret a)
   unfolding ret
   shrinks-ret a = record { shrinks = λ t. omega arith }
 
-  shrinks-if : (c : Bool) {r q : Reader A} → Shrinks r → Shrinks q → Shrinks (ifR c r q)
+  pub shrinks-if : (c : Bool) {r q : Reader A} → Shrinks r → Shrinks q → Shrinks (ifR c r q)
   unfolding ifR
   shrinks-if true g k = g
   shrinks-if false g k = k
 
 module _ {A B : Type 0} where
-  shrinks-bind : {m : Reader A} {f : A → Reader B} → Shrinks m → ((a : A) → Shrinks (f a)) → Shrinks (m >>= f)
+  pub shrinks-bind : {m : Reader A} {f : A → Reader B} → Shrinks m → ((a : A) → Shrinks (f a)) → Shrinks (m >>= f)
   unfolding _>>=_
   shrinks-bind {m} {f} M F = record { shrinks = λ t. omega (arith, M .shrinks t, F (m t .0) .shrinks (m t .1)) }
 
-  shrinks-then : {m : Reader A} {f : Reader B} → Shrinks m → Shrinks f → Shrinks (m >> f)
+  pub shrinks-then : {m : Reader A} {f : Reader B} → Shrinks m → Shrinks f → Shrinks (m >> f)
   unfolding _>>_
   shrinks-then {m} {f} M F = record { shrinks = λ t. omega (arith, M .shrinks t, F .shrinks (m t .1)) }
 
@@ -109,10 +109,10 @@ span-split p (x ∷ xs) = span-split-at p x xs (p x) refl (span-split p xs)
 span-length : (p : ℕ → Bool) (t : List ℕ) → length t ≡ length (span p t .0) + length (span p t .1)
 span-length p t = ap length (span-split p t) ∙ length-append (span p t .0) (span p t .1)
 
-shrinks-span : (p : ℕ → Bool) → Shrinks (span p)
+pub shrinks-span : (p : ℕ → Bool) → Shrinks (span p)
 shrinks-span p = record { shrinks = λ t. omega (arith, span-length p t) }
 
-shrinks-sees : (p : ℕ → Bool) → Shrinks (sees p)
+pub shrinks-sees : (p : ℕ → Bool) → Shrinks (sees p)
 unfolding sees
 shrinks-sees p = record { shrinks = go }
   where
@@ -120,7 +120,7 @@ shrinks-sees p = record { shrinks = go }
     go [] = omega arith
     go (x ∷ xs) = omega arith
 
-shrinks-skip : Shrinks skip
+pub shrinks-skip : Shrinks skip
 unfolding skip
 shrinks-skip = record { shrinks = go }
   where
@@ -141,14 +141,14 @@ literal-shrinks [] false = omega arith
 literal-shrinks (x ∷ xs) true = omega (arith, literal-shrinks xs false)
 literal-shrinks (x ∷ xs) false = literal-shrinks-at x xs (the "\"" x) (the "\\" x) refl refl (literal-shrinks xs)
 
-shrinks-literal : Shrinks literal
+pub shrinks-literal : Shrinks literal
 unfolding literal
 shrinks-literal = record { shrinks = λ t. literal-shrinks t false }
 
-ruleset shrink = (shrinks-bind, shrinks-then, shrinks-if, shrinks-ret, shrinks-span, shrinks-sees, shrinks-skip, shrinks-literal)
+pub ruleset shrink = (shrinks-bind, shrinks-then, shrinks-if, shrinks-ret, shrinks-span, shrinks-sees, shrinks-skip, shrinks-literal)
 
 module _ {S A : Type 0} where
-  moves-stop : (a : A) → Moves (ret {A = Turn S A} (stop a))
+  pub moves-stop : (a : A) → Moves (ret {A = Turn S A} (stop a))
   unfolding ret
   moves-stop a = record { moves = λ s t h. let z : _≡_ {A = ℕ} 0 1 = cc in absurd (omega arith) }
 
@@ -161,7 +161,7 @@ module _ {S A : Type 0} where
   unfolding _>>=_
   moves-bind {m} {f} M F = record { moves = λ s t h. omega (arith, M .shrinks t, F (m t .0) .moves s (m t .1) h) }
 
-  moves-then : {C : Type 0} {m : Reader C} {f : Reader (Turn S A)} → Shrinks m → Moves f → Moves (m >> f)
+  pub moves-then : {C : Type 0} {m : Reader C} {f : Reader (Turn S A)} → Shrinks m → Moves f → Moves (m >> f)
   unfolding _>>_
   moves-then {m} {f} M F = record { moves = λ s t h. omega (arith, M .shrinks t, F .moves s (m t .1) h) }
 
@@ -179,7 +179,7 @@ module _ {S A : Type 0} where
       go s (x ∷ xs) h = at s x xs (p x) h
 
 module _ (look : List ℕ → List ℕ) where
-  shrinks-reference : Shrinks (reference look)
+  pub shrinks-reference : Shrinks (reference look)
   unfolding reference
   shrinks-reference = search shrink
 
