@@ -22,7 +22,7 @@ drop-sets f i (v ∷ y) l h = drop-sets f (suc i) y (set l i v) (omega arith) �
 slice-below : (f t i : ℕ) (y l : List ℕ) → f ≤ t → t ≤ i → slice f t (sets l i y) ≡ slice f t l
 slice-below f t i y l h k = sym (drop-take f t (sets l i y)) ∙ ap (drop f) (take-sets l i y t k) ∙ drop-take f t l
 
-slice-above : (f t i : ℕ) (y l : List ℕ) → i + length y ≤ f → slice f t (sets l i y) ≡ slice f t l
+pub slice-above : (f t i : ℕ) (y l : List ℕ) → i + length y ≤ f → slice f t (sets l i y) ≡ slice f t l
 slice-above f t i y l h = ap (take (t - f)) (drop-sets f i y l h)
 
 -- And what was stored is there.

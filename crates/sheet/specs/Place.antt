@@ -8,7 +8,7 @@ use lib.Dec.{eqb}
 use lib.ListN.{length, take, drop, getD, length-append, length-take, length-drop, drop-of-length-le}
 use lib.Seq.{take-append-seam, take-add}
 use Rattle.rules.specs.Bytes.{less}
-use Rattle.rules.specs.Sheet.{Value, Records, end, rec, encode, fieldBytes, fieldMask, valueBytes, valueMask, set}
+use Rattle.rules.specs.Sheet.{Value, Records, end, rec, encode, count, fieldBytes, fieldMask, valueBytes, valueMask, set}
 use Rattle.sheet.specs.Parts.{Part, slice, part-split, part-slice}
 use Rattle.sheet.specs.Items.{At}
 use Rattle.sheet.specs.Order.{orderOf, order-less, order-three}
@@ -71,6 +71,47 @@ place-end {s} {r} {name} {i} k h = go (k .left) (k .part) (k .is)
     go : (q : Records) → Part s i (encode q) (length s) → ((v : Value) → encode (set r name v) ≡ take i s ++ encode (set q name v)) → Placed s r name i i
     go end p f = record { on = omega arith; inside = omega (arith, p .ends); is = λ v. f v ∙ ap (λ y. take i s ++ y) (one-rec name v end ∙ rw (drop-of-length-le s h) refl) }
     go (rec m w q) p f = absurd (omega (arith, p .ends))
+
+-- COUNTING. k records stand before i.
+pub record Counting (s : List ℕ) (r : Records) (i k : ℕ) : Type 0 where
+  pub left : Records
+  pub part : Part s i (encode left) (length s)
+  pub sum : k + count left ≡ count r
+  pub few : k ≤ i
+
+-- The next record of those.
+pub record Counted (s : List ℕ) (r : Records) (i k : ℕ) : Type 0 where
+  pub m : List ℕ
+  pub w : Value
+  pub q : Records
+  pub part : Part s i (encode (rec m w q)) (length s)
+  pub sum : k + suc (count q) ≡ count r
+
+pub count-start : {s : List ℕ} {r : Records} → s ≡ encode r → Counting s r 0 0
+unfolding place-start
+count-start {s} {r} e = record { left = r; part = place-start {name = []} e .part; sum = omega arith; few = omega arith }
+
+pub count-next : {s : List ℕ} {r : Records} {i k : ℕ} → Counting s r i k → i < length s → Counted s r i k
+unfolding encode count
+count-next {s} {r} {i} {k} c h = go (c .left) (c .part) (c .sum)
+  where
+    go : (q : Records) → Part s i (encode q) (length s) → k + count q ≡ count r → Counted s r i k
+    go end p e = absurd (omega (arith, p .ends))
+    go (rec m w q) p e = record { m = m; w = w; q = q; part = p; sum = e }
+
+pub counted-at : {s : List ℕ} {r : Records} {i k : ℕ} → Counted s r i k → At s i
+counted-at {s} c = record { n = c .m; v = c .w; r = c .q; j = length s; part = c .part }
+
+pub count-on : {s : List ℕ} {r : Records} {i k e : ℕ} → Counting s r i k → (c : Counted s r i k) → Part s e (encode (c .q)) (length s) → i < e → Counting s r e (k + 1)
+count-on z c p h = record { left = c .q; part = p; sum = omega (arith, c .sum); few = omega (arith, z .few) }
+
+pub count-end : {s : List ℕ} {r : Records} {i k : ℕ} → Counting s r i k → length s ≤ i → k ≡ count r
+unfolding encode count
+count-end {s} {r} {i} {k} c h = go (c .left) (c .part) (c .sum)
+  where
+    go : (q : Records) → Part s i (encode q) (length s) → k + count q ≡ count r → k ≡ count r
+    go end p e = omega arith
+    go (rec m w q) p e = absurd (omega (arith, p .ends))
 
 set-below : (n m : List ℕ) (v w : Value) (r : Records) → less n m ≡ true → set (rec m w r) n v ≡ rec n v (rec m w r)
 unfolding set

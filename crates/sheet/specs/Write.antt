@@ -20,7 +20,7 @@ use Rattle.rules.specs.Laws.Bool.{or-elim, or-false-l, or-false-r}
 use Rattle.rules.specs.Laws.Sheet.{count-le}
 use Rattle.rules.specs.Sheet.{Value, text, nothing, dictionary, Records, end, rec, encode, count, word16Bytes, fieldBytes, fieldMask, valueBytes, valueMask, set}
 use Rattle.sheet.specs.Parts.{Part, slice, part-slice, length-slice}
-use Rattle.sheet.specs.Moves.{slice-take, take-stored}
+use Rattle.sheet.specs.Moves.{slice-take, slice-above, take-stored}
 use Rattle.sheet.specs.Order.{made, asked, asked-length, asked-getD}
 use Rattle.sheet.specs.Find.{Gives}
 use Rattle.sheet.specs.Place.{HasRecords, Placed, one, one-rec}
@@ -463,6 +463,14 @@ module _ {b : List ℕ} {n l : ℕ} (g : Bindable b n l) (t : Bool) (name : List
     pub bound-value : (size : ℕ) (own : List ℕ) → length own ≡ len → (v : Value) → IsSource v bit size own → {c d x : List ℕ} →
         c ≡ sets b (p .from + p .head + len) (slice (p .to) n b) → d ≡ sets c (p .from + p .head) own → x ≡ sets d (p .from) (opening (asked t name) bit size) → BindsTo b n l (asked t name) v x (Length (p .total))
     bound-value size own k v w {x = x} i j h = bound-in g fit size own k v w x (bound-slice g fit size own k i j h)
+
+    -- The value's own bytes lie from a to c, behind the limit.
+    pub bound-behind : (size a c : ℕ) → l ≤ a → a ≤ c → c ≤ length b → c - a ≡ len → (v : Value) → IsSource v bit size (slice a c b) → {d e x : List ℕ} →
+        d ≡ sets b (p .from + p .head + len) (slice (p .to) n b) → e ≡ sets d (p .from + p .head) (slice a c d) → x ≡ sets e (p .from) (opening (asked t name) bit size) → BindsTo b n l (asked t name) v x (Length (p .total))
+    bound-behind size a c h o q k v w {d} {e} {x} i j y =
+        let u = bounds g fit in
+        let z : slice a c d ≡ slice a c b = ap (slice a c) i ∙ slice-above a c (p .from + p .head + len) (slice (p .to) n b) b (omega (arith, u .sum, length-slice (p .to) n b (g .inside))) in
+        bound-value size (slice a c b) (length-slice a c b q ∙ k) v w i (j ∙ ap (sets d (p .from + p .head)) z) y
 
     -- The value's own bytes lie from `from` to `to` of the sheet.
     pub bound-there : (size a c : ℕ) → a ≤ c → c ≤ n → c - a ≡ len → (v : Value) → IsSource v bit size (slice a c (take n b)) → {d x : List ℕ} →

@@ -253,7 +253,7 @@ fn source_of(value: Found) -> Source
 }
 
 // Binds a name to a value with this bit, this number and these bytes of its own.
-fn bind_value(
+pub fn bind_value(
     buf: &mut [u8],
     n: usize,
     limit: usize,
@@ -272,6 +272,30 @@ fn bind_value(
     shift(buf, p.to, n, p.from + p.head + own.len());
     buffers::store(buf, p.from + p.head, own);
     put_opening(buf, p.from, name, reference, bit, size);
+    Bound::Length(p.total)
+}
+
+// Binds a name to a value with this bit and this number, whose own bytes stand in the same buffer, behind the limit.
+pub fn bind_behind(
+    buf: &mut [u8],
+    n: usize,
+    limit: usize,
+    name: &[u8],
+    bit: u8,
+    size: usize,
+    from: usize,
+    to: usize,
+) -> Bound
+    requires { ⌜ Bindable (now buf) n limit × (limit ≤ from) × (from ≤ to) × (to ≤ length (now buf)) × HasSource bit size (slice from to (now buf)) ⌝ }
+    ensures { λ o. ⌜ Binds (now (buf .entry)) n limit (now (name .entry)) bit size (slice from to (now (buf .entry))) (now (buf .exit)) o ⌝ }
+{
+    let len = to - from;
+    let Plan::Fits(p) = find_room(&buf[..n], limit, name, false, bit, len) else {
+        return Bound::Over;
+    };
+    shift(buf, p.to, n, p.from + p.head + len);
+    shift(buf, from, to, p.from + p.head);
+    put_opening(buf, p.from, name, false, bit, size);
     Bound::Length(p.total)
 }
 

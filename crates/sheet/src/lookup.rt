@@ -10,10 +10,11 @@ ghost use mathlib.Core.List.{List};
 ghost use mathlib.Core.Option.{some};
 ghost use Prim.Native.Nat.{ℕ};
 ghost use Rattle.rules.specs.Bytes.{word};
-ghost use Rattle.rules.specs.Sheet.{Value, Records, rec, encode, goodRecords, get, resolve};
+ghost use Rattle.rules.specs.Sheet.{Value, Records, rec, encode, count, goodRecords, get, resolve};
 ghost use Rattle.sheet.specs.Parts.{Part};
 ghost use Rattle.sheet.specs.Items.{At, Told, Holding, Has};
 ghost use Rattle.sheet.specs.Order.{made, asked, orderOf};
+ghost use Rattle.sheet.specs.Place.{HasRecords};
 ghost use Rattle.sheet.specs.Find.{Gives, Body, HasBody, Level, IsSheet};
 
 // What a lookup finds, with its place in the sheet.
@@ -62,6 +63,21 @@ pub fn skip(s: &[u8], at: usize, count: usize) -> usize
         left = left - 1 + o.count;
     }
     i
+}
+
+// How many records stand in a sheet, not counting those inside dictionaries.
+pub fn count(s: &[u8]) -> usize
+    requires { ⌜ HasRecords (now s) ⌝ }
+    ensures { λ k. ⌜ ((r : Records) → now (s .entry) ≡ encode r → k ≡ count r) ⌝ }
+{
+    let mut i: usize = 0;
+    let mut k: usize = 0;
+    while i < s.len() {
+        let o = item(s, i);
+        i = skip(s, o.next, o.count);
+        k += 1;
+    }
+    k
 }
 
 // A byte of a name; in a reference each `-` is made `_`.
