@@ -186,13 +186,13 @@ pub fn preprocess_typst(
     if !r.ok {
         return no_expansion(out, left, r.number);
     }
-    let end = r.next;
+    let written = r.next;
     let len = r.len;
-    buffers::clear_from(out, end);
+    buffers::clear_from(out, written);
     buffers::clear_from(left, len);
     Expanded {
         number: 0,
-        len: end,
+        len: written,
         sheet: len,
     }
 }
