@@ -117,7 +117,7 @@ pub fn order(a: &[u8], b: &[u8], reference: bool) -> u8
 }
 
 // The value of a record.
-fn value(s: &[u8], o: Item) -> Found
+pub fn value(s: &[u8], o: Item) -> Found
     requires { ⌜ HasBody (now s) o ⌝ }
     ensures { λ f. ⌜ ((v : Value) → Body (now (s .entry)) v o → Gives (now (s .entry)) (some v) f) ⌝ }
 {

@@ -75,7 +75,7 @@ unfolding get
 get-name-at p m n v w r true q a h ih = rw (same-eq m n q) at a
 get-name-at p m n v w r false q a h ih = ih (rw (q, get) at h)
 
-get-name : (s : Records) (p : ℕ → Bool) (l : ℕ) (n : List ℕ) (w : Value) → goodRecords s p l ≡ true → get s n ≡ some w → all p n ≡ true
+pub get-name : (s : Records) (p : ℕ → Bool) (l : ℕ) (n : List ℕ) (w : Value) → goodRecords s p l ≡ true → get s n ≡ some w → all p n ≡ true
 unfolding get
 get-name end p l n w h f = cc
 get-name (rec m v r) p l n w h f =

@@ -1,0 +1,295 @@
+-- Binding the names of an import.
+use mathlib.Core.Path.{_≡_, refl, sym, ap, _∙_}
+use mathlib.Core.Bool.{true, false}
+use mathlib.Core.List.{List, [], _∷_, _++_, append-nil}
+use mathlib.Core.Option.{Option, none, some}
+use Prim.Native.Nat.{ℕ, _+_, _≤_, _<_}
+use native.Mathlib.Omega.{arith}
+use lib.ListN.{length, take, drop-of-length-le}
+use lib.Seq.{length-take-le}
+use borrow.Author.Tests.{le-leb, lt-leb}
+use Rattle.rules.specs.Answer.{Answer, refused, accepted, _>>=_, _>>_, check}
+use Rattle.rules.specs.Reader.{all}
+use Rattle.rules.specs.Bytes.{word}
+use Rattle.rules.specs.Sheet.{Value, text, nothing, dictionary, Records, end, rec, encode, sheetLength, goodValue, goodRecords, get, set}
+use Rattle.rules.specs.Definitions.{Names, star, listed, listedMore}
+use Rattle.rules.specs.Imports.{bindOne, bindIf, bindAll, bindListed, bindNames}
+use Rattle.rules.specs.Laws.Answer.{bind-accepted}
+use Rattle.rules.specs.Laws.Sheet.{good-parts, get-good, set-good}
+use Rattle.rules.specs.Laws.Definitions.{get-name}
+use Rattle.sheet.specs.Parts.{Part, slice, part-slice}
+use Rattle.sheet.specs.Items.{At, Told, Holding, inner}
+use Rattle.sheet.specs.Order.{asked}
+use Rattle.sheet.specs.Find.{IsSheet, Level, Gives, Body, item-body, item-holding, item-rest}
+use Rattle.sheet.specs.Write.{Bindable, BindsTo, IsThere}
+use Rattle.sheet.specs.Use.{to-bind, bound-bytes, over-long}
+use Rattle.sheet.specs.declared.head.Item.{Item}
+use Rattle.sheet.specs.declared.lookup.Found.{Found}
+use Rattle.sheet.specs.declared.lookup.Found.the-variants.{Missing, None, Text, Dictionary}
+use Rattle.sheet.specs.declared.bind.Bound.{Bound}
+use Rattle.sheet.specs.declared.bind.Bound.the-variants.{Over, Length}
+
+-- The first n bytes of b are a sheet, which may grow up to the limit; z is another.
+pub record Ready (z b : List ℕ) (n limit : ℕ) : Type 0 where
+  pub fits : n ≤ limit
+  pub room : limit ≤ length b
+  pub most : limit ≤ 65535
+  pub sheet : IsSheet (take n b)
+  pub from : IsSheet z
+
+-- The first n bytes of c are those of the good records s.
+pub record Holds (s : Records) (c : List ℕ) (n limit : ℕ) : Type 0 where
+  pub bytes : take n c ≡ encode s
+  pub long : n ≡ sheetLength s
+  pub fits : n ≤ limit
+  pub good : goodRecords s word 6 ≡ true
+
+-- What the answer a came to: refused with 9, or c holds its records.
+pub record Came (limit : ℕ) (a : Answer Records) (c : List ℕ) (o : Bound) : Type 0 where
+  pub over : o ≡ Over → a ≡ refused 9
+  pub bound : (m : ℕ) → o ≡ Length m → (s : Records) × (a ≡ accepted s) × Holds s c m limit
+
+-- The names that the sheet z has are bound in the sheet in the first n bytes of b.
+pub record BindsNames (names : Names) (z b : List ℕ) (n limit : ℕ) (c : List ℕ) (o : Bound) : Type 0 where
+  pub size : length c ≡ length b
+  pub binds : (s : IsSheet (take n b)) (r : IsSheet z) → Came limit (bindNames limit (s .r) (r .r) names) c o
+
+-- LAWS. What the first bytes hold.
+abbrev pub holds-sheet : {s : Records} {c : List ℕ} {n limit : ℕ} → Holds s c n limit → IsSheet (take n c)
+holds-sheet {s} h = record { r = s; bytes = h .bytes; good = h .good }
+
+pub holds-bindable : {s : Records} {c : List ℕ} {n limit : ℕ} → Holds s c n limit → limit ≤ length c → limit ≤ 65535 → Bindable c n limit
+holds-bindable {s} h r m = record { inside = omega (arith, h .fits); room = r; small = m; sheet = to-bind (holds-sheet h) }
+
+module _ {z b : List ℕ} {n limit : ℕ} (k : Ready z b n limit) where
+  pub ready-holds : (s : IsSheet (take n b)) → Holds (s .r) b n limit
+  unfolding sheetLength
+  ready-holds s = record { bytes = s .bytes; long = sym (ap length (sym (s .bytes)) ∙ length-take-le n b (omega (arith, k .fits, k .room))); fits = k .fits; good = s .good }
+
+-- An answer, by what it came to.
+bind-refused : (x : Answer Records) (f : Records → Answer Records) {k : ℕ} → x ≡ refused k → (x >>= f) ≡ refused k
+unfolding _>>=_
+bind-refused x f h = rw h
+
+not-length : {m : ℕ} → _≡_ {A = Bound} Over (Length m) → ⊥
+not-length h = let z : _≡_ {A = ℕ} 0 1 = cc in omega arith
+
+same-length : {m k : ℕ} → _≡_ {A = Bound} (Length m) (Length k) → m ≡ k
+same-length h = cc
+
+pub came-over : {limit : ℕ} {a : Answer Records} {c : List ℕ} → a ≡ refused 9 → Came limit a c Over
+came-over e = record { over = λ h. e; bound = λ m h. absurd (not-length h) }
+
+pub came-length : {limit : ℕ} {a : Answer Records} {c : List ℕ} {m : ℕ} (s : Records) → a ≡ accepted s → Holds s c m limit → Came limit a c (Length m)
+came-length s e h = record { over = λ q. absurd (not-length (sym q)); bound = λ k q. (s, e, rw (same-length q) at h) }
+
+-- One binding.
+pub came-one : {b : List ℕ} {n limit : ℕ} {name : List ℕ} {v : Value} {c : List ℕ} {s : Records} (o : Bound) →
+    Holds s b n limit → all word name ≡ true → goodValue v 6 ≡ true → BindsTo b n limit name v c o → Came limit (bindOne limit s name v) c o
+unfolding bindOne check _>>_
+came-one {limit = limit} {name = name} {v = v} {s = s} Over h a g w = came-over (rw (lt-leb (sheetLength (set s name v)) limit (over-long s (h .bytes) w)) refl)
+came-one {limit = limit} {name = name} {v = v} {s = s} (Length m) h a g w =
+    let y = bound-bytes s (h .bytes) w in
+    let l : sheetLength (set s name v) ≤ limit = omega (arith, y .0, y .2) in
+    came-length (set s name v) (rw (le-leb (sheetLength (set s name v)) limit l) refl) (record { bytes = y .1; long = y .2; fits = y .0; good = set-good s word 6 name v (h .good) a g })
+
+-- ALL NAMES. What is left of binding all records of z: those from i on, in the records that c holds.
+pub record Walking (limit : ℕ) (a : Answer Records) (z : List ℕ) (i : ℕ) (c : List ℕ) (n : ℕ) : Type 0 where
+  pub so : Records
+  pub left : Records
+  pub is : a ≡ bindAll limit so left
+  pub holds : Holds so c n limit
+  pub part : Part z i (encode left) (length z)
+  pub good : goodRecords left word 6 ≡ true
+
+-- The next of them.
+pub record Meeting (limit : ℕ) (a : Answer Records) (z : List ℕ) (i : ℕ) (c : List ℕ) (n : ℕ) : Type 0 where
+  pub so : Records
+  pub m : List ℕ
+  pub w : Value
+  pub q : Records
+  pub is : a ≡ (bindOne limit so m w >>= λ s. bindAll limit s q)
+  pub holds : Holds so c n limit
+  pub part : Part z i (encode (rec m w q)) (length z)
+  pub good : goodRecords (rec m w q) word 6 ≡ true
+
+pub record BindingAll (z b : List ℕ) (n limit : ℕ) (c : List ℕ) (len i : ℕ) : Type 0 where
+  pub size : length c ≡ length b
+  pub walk : (s : IsSheet (take n b)) (r : IsSheet z) → Walking limit (bindAll limit (s .r) (r .r)) z i c len
+
+-- A sheet as the part from its start to its end.
+pub sheet-part : {z : List ℕ} (r : IsSheet z) → Part z 0 (encode (r .r)) (length z)
+sheet-part {z} r = record { ends = omega (arith, ap length (r .bytes)); inside = omega arith; bytes = r .bytes ∙ sym (append-nil (encode (r .r))) ∙ ap (λ x. encode (r .r) ++ x) (sym (drop-of-length-le z {i = length z} (omega arith))) }
+
+pub all-start : {z b : List ℕ} {n limit : ℕ} → Ready z b n limit → BindingAll z b n limit b n 0
+all-start k = record { size = refl; walk = λ s r. record { so = s .r; left = r .r; is = refl; holds = ready-holds k s; part = sheet-part r; good = r .good } }
+
+module _ {limit : ℕ} {a : Answer Records} {z : List ℕ} {i : ℕ} {c : List ℕ} {n : ℕ} where
+  pub meeting : Walking limit a z i c n → i < length z → Meeting limit a z i c n
+  unfolding encode bindAll
+  meeting k h = go (k .left) (k .is) (k .part) (k .good)
+    where
+      go : (q : Records) → a ≡ bindAll limit (k .so) q → Part z i (encode q) (length z) → goodRecords q word 6 ≡ true → Meeting limit a z i c n
+      go end e p g = absurd (omega (arith, p .ends))
+      go (rec m w q) e p g = record { so = k .so; m = m; w = w; q = q; is = e; holds = k .holds; part = p; good = g }
+
+  pub meeting-at : Meeting limit a z i c n → At z i
+  meeting-at k = record { n = k .m; v = k .w; r = k .q; j = length z; part = k .part }
+
+  walk-end : Walking limit a z i c n → length z ≤ i → Came limit a c (Length n)
+  unfolding encode bindAll
+  walk-end k h = go (k .left) (k .is) (k .part)
+    where
+      go : (q : Records) → a ≡ bindAll limit (k .so) q → Part z i (encode q) (length z) → Came limit a c (Length n)
+      go end e p = came-length (k .so) e (k .holds)
+      go (rec m w q) e p = absurd (omega (arith, p .ends))
+
+  module _ (k : Meeting limit a z i c n) {o : Item} (d : Told z i (k .m) (k .w) (k .q) (length z) o) {c′ : List ℕ} {x : Bound} (w : BindsTo c n limit (asked false (slice (o .from) (o .to) z)) (k .w) c′ x) where
+    met : Came limit (bindOne limit (k .so) (k .m) (k .w)) c′ x
+    unfolding asked
+    met =
+        let g = good-parts (k .m) (k .w) (k .q) word 6 (k .good) in
+        came-one x (k .holds) (g .name) (g .value) (rw (part-slice (d .name)) at w)
+
+    met-over : x ≡ Over → a ≡ refused 9
+    met-over e = k .is ∙ bind-refused _ _ (met .over e)
+
+    met-on : {e m : ℕ} → x ≡ Length m → e ≡ o .next + length (encode (inner (k .w))) → Walking limit a z e c′ m
+    met-on h f =
+        let y = met .bound _ h in
+        let g = good-parts (k .m) (k .w) (k .q) word 6 (k .good) in
+        record { so = y .0; left = k .q; is = k .is ∙ bind-accepted _ _ (y .1); holds = y .2; part = item-rest d f; good = g .later }
+
+pub all-end : {z b : List ℕ} {n limit : ℕ} {c : List ℕ} {len i : ℕ} → BindingAll z b n limit c len i → length z ≤ i → BindsNames star z b n limit c (Length len)
+unfolding bindNames
+all-end k h = record { size = k .size; binds = λ s r. walk-end (k .walk s r) h }
+
+-- The record o of z at i.
+module _ {z b : List ℕ} {n limit : ℕ} (p : Ready z b n limit) {c : List ℕ} {len i : ℕ} (k : BindingAll z b n limit c len i) (h : i < length z) where
+  pub all-next : Meeting limit (bindAll limit (p .sheet .r) (p .from .r)) z i c len
+  all-next = meeting (k .walk (p .sheet) (p .from)) h
+
+  pub all-bindable : Bindable c len limit
+  all-bindable = holds-bindable (all-next .holds) (omega (arith, p .room, k .size)) (p .most)
+
+  module _ {o : Item} (d : (n : List ℕ) (v : Value) (r : Records) (j : ℕ) → Part z i (encode (rec n v r)) j → Told z i n v r j o) where
+    pub all-told : Told z i (all-next .m) (all-next .w) (all-next .q) (length z) o
+    all-told = d _ _ _ _ (all-next .part)
+
+    module _ (f : Found) (g : (v : Value) → Body z v o → Gives z (some v) f) where
+      pub all-there : IsThere z f
+      all-there = record { v = all-next .w; gives = g (all-next .w) (item-body all-told) }
+
+      module _ {c′ : List ℕ} {x : Bound} (w : (v : Value) → Gives z (some v) f → BindsTo c len limit (asked false (slice (o .from) (o .to) z)) v c′ x) where
+        pub all-size : length c′ ≡ length b
+        all-size = w _ (all-there .gives) .long ∙ k .size
+
+        pub all-over : x ≡ Over → BindsNames star z b n limit c′ Over
+        unfolding bindNames
+        all-over e = record {
+          size = all-size;
+          binds = λ s r. let y = meeting (k .walk s r) h in let t = d _ _ _ _ (y .part) in came-over (met-over y t (w _ (g _ (item-body t))) e);
+        }
+
+        pub all-on : {e m : ℕ} → x ≡ Length m → ((r : Records) (j : ℕ) → Holding z (o .next) (o .count) r j → e ≡ j) → BindingAll z b n limit c′ m e
+        all-on e f = record {
+          size = all-size;
+          walk = λ s r. let y = meeting (k .walk s r) h in let t = d _ _ _ _ (y .part) in met-on y t (w _ (g _ (item-body t))) e (f _ _ (item-holding t));
+        }
+
+-- ONE NAME. What a lookup gave, of a name that is not missing.
+found-there : (s : List ℕ) (x : Option Value) (f : Found) → Gives s x f → (f ≡ Missing → ⊥) → (v : Value) × (x ≡ some v) × Gives s (some v) f
+unfolding Gives
+found-there s x Missing g h = absurd (h refl)
+found-there s x None g h = (nothing, g, refl)
+found-there s x (Text a b) g h = (text (g .0), g .1, (g .0, refl, g .2))
+found-there s x (Dictionary a b n) g h = (dictionary (g .0), g .1, (g .0, refl, g .2, g .3))
+
+abbrev pub sheet-level : {z : List ℕ} → IsSheet z → Level z 0 (length z)
+sheet-level r = record { r = r .r; p = word; l = 6; part = sheet-part r; good = r .good }
+
+pub none-bound : {z b : List ℕ} {n limit : ℕ} → Ready z b n limit → BindsNames (listed []) z b n limit b (Length n)
+unfolding bindNames bindListed
+none-bound p = record { size = refl; binds = λ s r. came-length (s .r) refl (ready-holds p s) }
+
+one-word : (limit : ℕ) (s r : Records) (w : List ℕ) {c : List ℕ} {o : Bound} (x : Option Value) → get r w ≡ x → Came limit (bindIf limit s w x) c o → Came limit (bindNames limit s r (listed (w ∷ []))) c o
+unfolding bindNames bindListed
+one-word limit s r w x e h = record {
+  over = λ q. bind-refused _ _ (ap (bindIf limit s w) e ∙ h .over q);
+  bound = λ m q. let y = h .bound m q in (y .0, bind-accepted _ _ (ap (bindIf limit s w) e ∙ y .1), y .2);
+}
+
+module _ {z b : List ℕ} {n limit : ℕ} (p : Ready z b n limit) (w : List ℕ) (f : Found) (g : (l : Level z 0 (length z)) → Gives z (get (l .r) (asked false w)) f) where
+  gives-word : (r : IsSheet z) → Gives z (get (r .r) w) f
+  unfolding asked
+  gives-word r = g (sheet-level r)
+
+  pub word-bindable : Bindable b n limit
+  word-bindable = holds-bindable (ready-holds p (p .sheet)) (p .room) (p .most)
+
+  pub word-there : (f ≡ Missing → ⊥) → IsThere z f
+  word-there h = let y = found-there z _ f (gives-word (p .from)) h in record { v = y .0; gives = y .2 }
+
+  pub word-missing : f ≡ Missing → BindsNames (listed (w ∷ [])) z b n limit b (Length n)
+  unfolding bindIf Gives
+  word-missing e = record {
+    size = refl;
+    binds = λ s r. let y : get (r .r) w ≡ none = rw e at (gives-word r) in one-word limit (s .r) (r .r) w none y (came-length (s .r) refl (ready-holds p s));
+  }
+
+  module _ {c : List ℕ} {o : Bound} (x : (v : Value) → Gives z (some v) f → BindsTo b n limit (asked false w) v c o) where
+    pub word-bound : (f ≡ Missing → ⊥) → BindsNames (listed (w ∷ [])) z b n limit c o
+    unfolding bindIf asked
+    word-bound h = record {
+      size = x _ (word-there h .gives) .long;
+      binds = λ s r.
+          let y = found-there z _ f (gives-word r) h in
+          one-word limit (s .r) (r .r) w (some (y .0)) (y .1) (came-one o (ready-holds p s) (get-name (r .r) word 6 w (y .0) (r .good) (y .1)) (get-good (r .r) word 6 w (y .0) (r .good) (y .1)) (x _ (y .2)));
+    }
+
+-- A later word, which is dropped where it is empty.
+pub later-empty : (w : List ℕ) → length w ≡ 0 → listedMore [] w ≡ []
+unfolding listedMore
+later-empty [] h = refl
+later-empty (x ∷ xs) h = absurd (omega arith)
+
+pub later-some : (w : List ℕ) → (length w ≡ 0 → ⊥) → listedMore [] w ≡ w ∷ []
+unfolding listedMore
+later-some [] h = absurd (h refl)
+later-some (x ∷ xs) h = refl
+
+pub names-as : {u v : Names} {z b : List ℕ} {n limit : ℕ} {c : List ℕ} {o : Bound} → u ≡ v → BindsNames u z b n limit c o → BindsNames v z b n limit c o
+names-as e k = rw e at k
+
+-- WORDS one behind the other.
+bind-assoc : (x : Answer Records) (f g h : Records → Answer Records) → ((s : Records) → g s ≡ (f s >>= h)) → (x >>= g) ≡ ((x >>= f) >>= h)
+unfolding _>>=_
+bind-assoc (refused k) f g h e = refl
+bind-assoc (accepted s) f g h e = e s
+
+listed-append : (limit : ℕ) (s r : Records) (xs ys : List (List ℕ)) → bindListed limit s r (xs ++ ys) ≡ (bindListed limit s r xs >>= λ s′. bindListed limit s′ r ys)
+unfolding bindListed _>>=_
+listed-append limit s r [] ys = refl
+listed-append limit s r (x ∷ xs) ys = bind-assoc (bindIf limit s x (get r x)) _ _ _ (λ s′. listed-append limit s′ r xs ys)
+
+module _ {xs : List (List ℕ)} (ys : List (List ℕ)) {z b : List ℕ} {n limit : ℕ} {c : List ℕ} {o : Bound} (w : BindsNames (listed xs) z b n limit c o) where
+  -- Behind words that are refused nothing is bound.
+  pub names-over : o ≡ Over → BindsNames (listed (xs ++ ys)) z b n limit c Over
+  unfolding bindNames
+  names-over e = record { size = w .size; binds = λ s r. came-over (listed-append limit (s .r) (r .r) xs ys ∙ bind-refused _ _ (w .binds s r .over e)) }
+
+  -- Behind words that are bound the others are.
+  pub names-then : {m : ℕ} {c′ : List ℕ} {o′ : Bound} → o ≡ Length m → BindsNames (listed ys) z c m limit c′ o′ → BindsNames (listed (xs ++ ys)) z b n limit c′ o′
+  unfolding bindNames
+  names-then e v = record {
+    size = v .size ∙ w .size;
+    binds = λ s r.
+        let y = w .binds s r .bound _ e in
+        rw (listed-append limit (s .r) (r .r) xs ys ∙ bind-accepted _ _ (y .1)) (v .binds (holds-sheet (y .2)) r);
+  }
+
+-- What is left is a sheet, too.
+pub ready-on : {names : Names} {z b : List ℕ} {n limit : ℕ} {c : List ℕ} {o : Bound} {m : ℕ} → Ready z b n limit → BindsNames names z b n limit c o → o ≡ Length m → Ready z c m limit
+ready-on p w e =
+    let y = w .binds (p .sheet) (p .from) .bound _ e in
+    record { fits = y .2 .fits; room = omega (arith, p .room, w .size); most = p .most; sheet = holds-sheet (y .2); from = p .from }

@@ -1,0 +1,2 @@
+// Files of definitions (document 01, section 7).
+pub mod names;
