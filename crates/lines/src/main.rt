@@ -155,6 +155,32 @@ fn includes_same(case: &[u8]) -> bool {
     text_same(answer, got, &out)
 }
 
+// The expansion call: bundle, text, sheet, and the answers of the text and of the sheet left, with the call's number in both.
+fn expansion_same(case: &[u8]) -> bool {
+    let text = field(case, 3);
+    let sheet = field(case, 4);
+    let mut out = buffer();
+    let mut left = buffer();
+    let n = room(text, &out);
+    let m = room(sheet, &left);
+    let got = builder::preprocess_typst(
+        field(case, 0),
+        field(case, 1),
+        field(case, 2),
+        &mut out[..n],
+        &mut left[..m],
+    );
+    let written = builder::Text {
+        number: got.number,
+        len: got.len,
+    };
+    let kept = builder::Text {
+        number: got.number,
+        len: got.sheet,
+    };
+    text_same(text, written, &out) & text_same(sheet, kept, &left)
+}
+
 // What a case came to: whether the answer is the one given, and how long the case is behind its tag.
 struct Done {
     pub same: bool,
@@ -173,6 +199,10 @@ fn replay_case(tag: u8, case: &[u8]) -> Done
         1 => Done {
             same: includes_same(case),
             len: behind(case, 4),
+        },
+        2 => Done {
+            same: expansion_same(case),
+            len: behind(case, 5),
         },
         _ => Done {
             same: false,
@@ -216,8 +246,15 @@ fn replay(input: &[u8]) -> Tally {
     }
 }
 
+// A buffer for the whole input.
+fn input_buffer() -> [u8; 131072]
+    ensures { λ r. ⌜ 131072 ≡ length r ⌝ }
+{
+    [0; 131072]
+}
+
 fn main() {
-    let mut input = io::large_buffer();
+    let mut input = input_buffer();
     let n = io::read_full(0, &mut input);
     let tally = replay(&input[..n]);
     io::print_decimal(STDOUT_FILENO, tally.cases);

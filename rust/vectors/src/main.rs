@@ -1,8 +1,7 @@
 //! Writes the input of the program `lines` to standard output: cases of the public calls with the answers that they must have. What
 //! `lines` must print goes to standard error. The form of a case stands in `record`.
 //!
-//!     vectors [expansion] [FILE]        expansion: with the cases of the expansion call, too
-//!                                       FILE: the lines with given answers, where they are not in their place
+//!     vectors [FILE]        FILE: the lines with given answers, where they are not in their place
 
 mod edge;
 mod expansion;
@@ -14,34 +13,27 @@ use record::Record;
 use std::io::{self, Write};
 use std::{env, process};
 
-/// Below the 65,536 bytes that the program reads; with the expansion call below 131,072.
-const LONGEST: usize = 60_000;
-const LONGEST_WITH_EXPANSION: usize = 130_000;
+/// Below the 131,072 bytes that the program reads.
+const LONGEST: usize = 130_000;
 const BESIDE_THE_PROJECT: &str = concat!(env!("CARGO_MANIFEST_DIR"), "/../../../shared/vectors/edge.jsonl");
 
 fn main() {
-    let mut words: Vec<String> = env::args().skip(1).collect();
-    let with_expansion = words.iter().any(|word| word == "expansion");
-    words.retain(|word| word != "expansion");
-    let given = words.pop().unwrap_or_else(|| BESIDE_THE_PROJECT.into());
-    let all = records(&given, with_expansion).unwrap_or_else(|e| {
+    let given = env::args().nth(1).unwrap_or_else(|| BESIDE_THE_PROJECT.into());
+    let all = records(&given).unwrap_or_else(|e| {
         eprintln!("vectors: {given}: {e}");
         process::exit(1)
     });
     let out: Vec<u8> = all.iter().flat_map(|record| record.0.iter().copied()).collect();
-    let longest = if with_expansion { LONGEST_WITH_EXPANSION } else { LONGEST };
-    assert!(out.len() < longest, "{} bytes are too many", out.len());
+    assert!(out.len() < LONGEST, "{} bytes are too many", out.len());
     io::stdout().write_all(&out).expect("standard output");
     eprintln!("{} cases, 0 differ", all.len());
 }
 
-fn records(given: &str, with_expansion: bool) -> io::Result<Vec<Record>> {
+fn records(given: &str) -> io::Result<Vec<Record>> {
     let mut all: Vec<Record> = lookups::cases();
     all.extend(edge::includes(given)?);
     all.extend(includes::cases());
-    if with_expansion {
-        all.extend(edge::expansions(given)?);
-        all.extend(expansion::cases());
-    }
+    all.extend(edge::expansions(given)?);
+    all.extend(expansion::cases());
     Ok(all)
 }

@@ -5,8 +5,6 @@
 //! it). A refused call's other fields are 0, and so is every byte of its output.
 
 pub mod raw;
-#[cfg(feature = "standin")]
-mod standin;
 
 /// What a path names in a sheet.
 #[repr(C)]
@@ -103,7 +101,6 @@ pub fn resolve_includes(bundle: &[u8], folder: &[u8], text: &[u8], out: &mut [u8
 
 /// Writes `text` with its references and its calls of `#raw` and `#link` expanded to the start of `out`, and the sheet with the text's
 /// own bindings to the start of `left`; 0 behind both. `sheet` is the one that the text begins with; files are read out of `bundle`.
-#[cfg(not(feature = "standin"))]
 pub fn preprocess_typst(bundle: &[u8], text: &[u8], sheet: &[u8], out: &mut [u8], left: &mut [u8]) -> Expanded {
     // SAFETY: all slices can be read for their lengths, and their pointers are not null; `out` and `left` can be written for their
     // lengths and overlap none of the others.
@@ -122,9 +119,6 @@ pub fn preprocess_typst(bundle: &[u8], text: &[u8], sheet: &[u8], out: &mut [u8]
         )
     }
 }
-
-#[cfg(feature = "standin")]
-pub use standin::preprocess_typst;
 
 /// What a number says (document 01, section 8).
 pub fn refusal(number: u8) -> &'static str {
