@@ -4,12 +4,12 @@ use mathlib.Core.List.{List, [], _∷_, _++_, append-assoc}
 use Prim.Native.Nat.{ℕ, suc, _+_, _-_, _≤_, _<_}
 use native.Mathlib.Numerals.{add-one}
 use native.Mathlib.Omega.{arith}
-use lib.ListN.{length, take, drop, getD, set, length-append, length-drop, length-set}
+use lib.ListN.{length, take, drop, getD, set, length-append, length-drop, length-set, take-append-drop}
 use lib.Seq.{sets, sets-eq, length-sets, length-take-le, drop-set-lt, take-append-le, take-append-add, take-take, drop-append-add, drop-drop, take-at}
 use Rattle.scan.specs.Laws.{cut-at}
 use Rattle.scan.specs.Paths.{drop-take}
 use Rattle.buffers.specs.Laws.{sets-append, sets-before, take-sets}
-use Rattle.sheet.specs.Parts.{slice, length-slice}
+use Rattle.sheet.specs.Parts.{slice, length-slice, slice-part}
 
 pub slice-take : (a b n : ℕ) (s : List ℕ) → a ≤ b → b ≤ n → slice a b (take n s) ≡ slice a b s
 slice-take a b n s h k = sym (drop-take a b (take n s)) ∙ ap (drop a) (take-take b n s k) ∙ drop-take a b s
@@ -35,6 +35,13 @@ slice-stored p q i y l h k g =
     let e : i + q - (i + p) ≡ q - p = omega arith in
     let c : slice p q (y ++ z) ≡ slice p q y = sym (drop-take p q (y ++ z)) ∙ ap (drop p) (take-append-le q y z k) ∙ drop-take p q y in
     rw e (ap (take (q - p)) b ∙ c)
+
+-- A part that is stored where it stands.
+pub sets-slice : (s : List ℕ) (f t : ℕ) → f ≤ t → t ≤ length s → sets s f (slice f t s) ≡ s
+sets-slice s f t h k =
+    let p = slice-part s f t h k in
+    let x = slice f t s in
+    sets-eq x s f (omega (arith, p .ends, p .inside)) ∙ append-assoc (take f s) x (drop (f + length x) s) ∙ ap (λ z. take f s ++ (x ++ drop z s)) (p .ends) ∙ ap (λ z. take f s ++ z) (sym (p .bytes)) ∙ take-append-drop f s
 
 -- What is stored at i, and all that stands before it.
 pub take-stored : (b y : List ℕ) (i m : ℕ) → i + length y ≡ m → m ≤ length b → take m (sets b i y) ≡ take i b ++ y

@@ -120,6 +120,9 @@ fn shift(buf: &mut [u8], from: usize, end: usize, to: usize)
     requires { ⌜ (from ≤ end) × (end ≤ length (now buf)) × (to + (end - from) ≤ length (now buf)) ⌝ }
     ensures { λ _. ⌜ now (buf .exit) ≡ sets (now (buf .entry)) to (slice from end (now (buf .entry))) ⌝ }
 {
+    if to == from {
+        return;
+    }
     if to <= from {
         buffers::move_down(buf, to, from, end);
         return;

@@ -11,6 +11,14 @@ use Prim.Native.Nat.{_+_, _-_}
 use lib.ListN.{take, drop}
 use lib.Seq.{sets}
 use Rattle.scan.specs.Paths.{drop-take}
+use Rattle.sheet.specs.Parts.{slice}
+use Rattle.sheet.specs.Moves.{sets-slice}
+
+returns : tie.Need-returns
+returns c =
+    let a = c .before .before .args in
+    let e : a .from ≡ a .to = omega arith in
+    sym (sets-slice (a .buf .now) (a .from) (a .end) (omega arith) (omega arith)) ∙ ap (λ z. sets (a .buf .now) z (slice (a .from) (a .end) (a .buf .now))) e
 
 move-down-requires : tie.Need-move-down-requires
 move-down-requires c κs = search needs
@@ -18,9 +26,9 @@ move-down-requires c κs = search needs
 same-length : tie.Need-same-length
 same-length c = search needs
 
-returns : tie.Need-returns
-returns c =
-    let a = c .before .before .before .before .before .before .args in
+returns-2 : tie.Need-returns-2
+returns-2 c =
+    let a = c .before .before .before .before .before .before .before .args in
     c .before .before .move-down .ensures ∙ ap (λ z. sets (a .buf .now) (a .to) z) (drop-take (a .from) (a .end) (a .buf .now))
 
 sub-move-up : tie.Need-sub-move-up
@@ -32,9 +40,9 @@ move-up-requires c κs = search needs
 same-length-2 : tie.Need-same-length-2
 same-length-2 c = search needs
 
-returns-2 : tie.Need-returns-2
-returns-2 c =
-    let a = c .before .before .before .before .before .before .args in
+returns-3 : tie.Need-returns-3
+returns-3 c =
+    let a = c .before .before .before .before .before .before .before .args in
     let e : a .from + (a .to - a .from) ≡ a .to = omega arith in
     c .before .before .move-up .ensures ∙ ap (λ z. sets (a .buf .now) z (drop (a .from) (take (a .end) (a .buf .now)))) e ∙ ap (λ z. sets (a .buf .now) (a .to) z) (drop-take (a .from) (a .end) (a .buf .now))
 
@@ -42,10 +50,11 @@ pub shift-spec : {M : Type 1} → statement M
 shift-spec =
     tie.close
     (tie.spec
+    returns
     move-down-requires
     same-length
-    returns
+    returns-2
     sub-move-up
     move-up-requires
     same-length-2
-    returns-2)
+    returns-3)
