@@ -26,6 +26,10 @@ pub one-rec : (n : List ℕ) (v : Value) (r : Records) → encode (rec n v r) �
 unfolding encode one
 one-rec n v r = simp append-assoc
 
+pub one-some : (n : List ℕ) (v : Value) → 0 < length (one n v)
+unfolding one
+one-some n v = omega arith
+
 -- A record of the name goes between `from` and `to` of the sheet with the records r.
 pub record Placed (s : List ℕ) (r : Records) (name : List ℕ) (from to : ℕ) : Type 0 where
   pub on : from ≤ to

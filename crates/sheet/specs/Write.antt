@@ -212,7 +212,7 @@ set-size-at n m v w r true d p q h = rw (p, set, one-rec n v (rec m w r), length
 set-size-at n m v w r false true p q h = rw (p, q, set, one-rec m w (set r n v), length-append) (omega arith)
 set-size-at n m v w r false false p q h = rw (p, q, set, one-rec n v r, length-append) (omega arith)
 
-set-size : (r : Records) (n : List ℕ) (v : Value) → length (one n v) ≤ length (encode (set r n v))
+pub set-size : (r : Records) (n : List ℕ) (v : Value) → length (one n v) ≤ length (encode (set r n v))
 unfolding set
 set-size end n v = rw (one-rec n v end, length-append) (omega arith)
 set-size (rec m w r) n v = set-size-at n m v w r (less n m) (less m n) refl refl (set-size r n v)
@@ -326,7 +326,7 @@ pub none-source : IsSource nothing 8 0 []
 unfolding valueMask valueBytes number numbered
 none-source = record { sort = refl; bytes = refl; small = omega arith }
 
-dictionary-source : (d : Records) {n : ℕ} → count d ≡ n → IsSource (dictionary d) 4 n (encode d)
+pub dictionary-source : (d : Records) {n : ℕ} → count d ≡ n → IsSource (dictionary d) 4 n (encode d)
 unfolding valueMask valueBytes number numbered
 dictionary-source d e = record { sort = refl; bytes = rw (← e) refl; small = omega (arith, count-le d) }
 

@@ -3,7 +3,7 @@ use mathlib.Core.Path.{_≡_, refl, sym, ap, subst, _∙_}
 use mathlib.Core.List.{List, [], _∷_}
 use mathlib.Core.Bool.{Bool, true, false, true≢false, _||_}
 use mathlib.Core.List.{_++_}
-use Prim.Native.Nat.{ℕ, suc, _+_, _-_, _*_, _≤_, _<_}
+use Prim.Native.Nat.{ℕ, zero, suc, _+_, _-_, _≤_, _<_}
 use native.Mathlib.Omega.{arith}
 use native.Mathlib.Decide.{decLe}
 use lib.Dec.{eqb, leb, ltb}
@@ -12,10 +12,11 @@ use lib.Seq.{sets, drop-drop, length-take-le, take-append-le}
 use borrow.Author.Tests.{le-leb, lt-leb, ltb-true, ltb-false, eqb-true, eqb-false}
 use Rattle.rules.specs.Answer.{Answer, refused, accepted}
 use Rattle.rules.specs.Reader.{Reader, ret, _>>=_}
-use Rattle.rules.specs.Sheet.{Value, text, nothing, Records, encode, valueBytes, valueMask, fieldBytes, fieldMask, word16Bytes, valueLength, resolveString}
+use Rattle.rules.specs.Sheet.{Value, text, nothing, dictionary, Records, encode, valueBytes, valueMask, fieldBytes, fieldMask, word16Bytes, valueLength, resolveString}
 use Rattle.rules.specs.Strings.{expression}
 use Rattle.rules.specs.Definitions.{measured, textValue}
 use Rattle.rules.specs.Laws.Bool.{or-elim, or-false-l, or-false-r}
+use Rattle.scan.specs.Sets.{Skips}
 use Rattle.scan.specs.Paths.{tail-part}
 use Rattle.buffers.specs.Laws.{put-length, put-fits, put-not, stored-first}
 use Rattle.buffers.specs.Emits.{put-fill}
@@ -24,9 +25,14 @@ use Rattle.sheet.specs.Find.{IsSheet}
 use Rattle.sheet.specs.Write.{IsSource, text-empty, text-full, none-source}
 use Rattle.values.specs.declared.Valued.{Valued}
 
+-- What a value with l levels of dictionaries needs: a slot for each level, and one for a text.
+unfoldable pub slots : ℕ → ℕ → ℕ
+slots limit zero = limit
+slots limit (suc l) = limit + slots limit l
+
 -- The work buffer w has room for a value with l levels of dictionaries.
 pub record Room (w : List ℕ) (limit l : ℕ) : Type 0 where
-  pub fits : suc l * limit ≤ length w
+  pub fits : slots limit l ≤ length w
   pub most : limit ≤ 65535
 
 -- A value was read up to r .at, and its own bytes stand at the start of w.
@@ -52,7 +58,43 @@ pub record IsNone (at : ℕ) (r : Valued) : Type 0 where
   pub short : r .len ≡ 0
   pub source : IsSource nothing (r .bit) (r .size) []
 
--- LAWS. How long a text's value is.
+-- The refusal k, at `at`.
+pub record Refused (k at : ℕ) (r : Valued) : Type 0 where
+  pub no : r .ok ≡ false
+  pub says : r .number ≡ k
+  pub place : r .at ≡ at
+  pub short : r .len ≡ 0
+
+-- The dictionary of the records m, closed at `at`.
+pub record Closes (t : List ℕ) (at : ℕ) (m : List ℕ) (r : Valued) : Type 0 where
+  pub fine : r .ok ≡ true
+  pub skips : Skips t at (r .at)
+  pub long : r .len ≡ length m
+  pub source : (d : Records) → m ≡ encode d → IsSource (dictionary d) (r .bit) (r .size) m
+
+-- LAWS. One slot at least.
+pub slot-le : (limit l : ℕ) → limit ≤ slots limit l
+unfolding slots
+slot-le limit zero = omega arith
+slot-le limit (suc l) = omega arith
+
+pub slot-more : (limit l : ℕ) → (l ≡ 0 → ⊥) → slots limit l ≡ limit + slots limit (l - 1)
+unfolding slots
+slot-more limit zero h = absurd (h refl)
+slot-more limit (suc l) h = let e : suc l - 1 ≡ l = omega arith in rw e refl
+
+-- Room for a text; and, behind a slot, for what a dictionary holds.
+pub room-text : {w : List ℕ} {limit l : ℕ} → Room w limit l → Room w limit 0
+unfolding slots
+room-text {limit = limit} {l = l} h = record { fits = omega (arith, slot-le limit l, h .fits); most = h .most }
+
+pub room-two : (c : List ℕ) {w : List ℕ} {limit l : ℕ} → Room w limit l → (l ≡ 0 → ⊥) → length c ≡ length w → limit + limit ≤ length c
+room-two c {limit = limit} {l = l} h k e = omega (arith, slot-more limit l k, slot-le limit (l - 1), h .fits)
+
+pub room-behind : (c : List ℕ) {w : List ℕ} {limit l : ℕ} → Room w limit l → (l ≡ 0 → ⊥) → length c ≡ length w → Room (take (length c - limit) (drop limit c)) limit (l - 1)
+room-behind c {limit = limit} {l = l} h k e = record { fits = omega (arith, slot-more limit l k, h .fits, ap length (tail-part c limit), length-drop limit c); most = h .most }
+
+-- How long a text's value is.
 text-length : (t : List ℕ) → (length t ≡ 0 → valueLength (text t) ≡ 1) × ((length t ≡ 0 → ⊥) → valueLength (text t) ≡ 3 + length t)
 unfolding valueLength encode fieldBytes word16Bytes
 text-length [] = (λ e. refl, λ e. absurd (e refl))
@@ -67,13 +109,13 @@ unfolding measured
 measured-yes L v h = rw (le-leb (valueLength v) L h, measured) refl
 
 -- A text of the work buffer's first bytes.
-module _ (limit : ℕ) (t : List ℕ) (at : ℕ) (w : List ℕ) {room : ℕ} (e : room ≡ limit - 3) (i : at ≤ length t) {z : List ℕ} (s₀ : IsSheet z) (h : Room w limit 0) {c₀ : List ℕ} {k q : ℕ}
+module _ (limit : ℕ) (t : List ℕ) (at : ℕ) (w : List ℕ) {room : ℕ} (e : room ≡ limit - 3) (i : at ≤ length t) {z : List ℕ} (s₀ : IsSheet z) {l : ℕ} (h : Room w limit l) {c₀ : List ℕ} {k q : ℕ}
     (W₀ : (s : IsSheet z) → Wrote room (expression (resolveString (s .r)) (take (length t - at) (drop at t))) (take (length t - at) (drop at t)) (take room w) 0 c₀ k q) where
   W : (s : IsSheet z) → Wrote room (expression (resolveString (s .r)) (drop at t)) (drop at t) (take room w) 0 c₀ k q
   W s = subst (λ x. Wrote room (expression (resolveString (s .r)) x) x (take room w) 0 c₀ k q) (tail-part t at) (W₀ s)
 
   room-fits : room ≤ length w
-  room-fits = omega (arith, h .fits)
+  room-fits = omega (arith, slot-le limit l, h .fits)
 
   first-long : length (take room w) ≡ room
   first-long = length-take-le room w room-fits

@@ -1,12 +1,16 @@
 // Values of definitions (document 01, section 7): a text, none, or a dictionary, which holds values.
+use scan::Set;
+use sheet::bind::Bound;
+use sheet::head::DICTIONARY;
 use sheet::head::NONE;
 use sheet::head::TEXT;
 ghost use mathlib.Core.Path.{_≡_};
 ghost use Prim.Native.Nat.{_-_, _≤_};
 ghost use lib.ListN.{length};
-ghost use Rattle.rules.specs.Definitions.{textValue};
+ghost use Rattle.rules.specs.Definitions.{textValue, value, dictionaryValue};
 ghost use Rattle.sheet.specs.Find.{IsSheet};
-ghost use Rattle.values.specs.Values.{Room, ReadsValue, IsNone};
+ghost use Rattle.sheet.specs.Place.{HasRecords};
+ghost use Rattle.values.specs.Values.{Room, ReadsValue, IsNone, Refused, Closes};
 
 // What reading a value came to: is there one; if not, the refusal's number; where reading goes on; the value's bit, the number that stands before
 // its own bytes, and how many of those stand at the start of the work buffer.
@@ -76,5 +80,103 @@ fn none_value(at: usize) -> Valued
         bit: NONE,
         size: 0,
         len: 0,
+    }
+}
+
+// The refusal of a value.
+fn no_value(number: u8, at: usize) -> Valued
+    ensures { λ r. ⌜ Refused number at r ⌝ }
+{
+    Valued {
+        ok: false,
+        number: number,
+        at: at,
+        bit: 0,
+        size: 0,
+        len: 0,
+    }
+}
+
+// A dictionary whose records these are, at its `)` or the end of the text.
+fn close(text: &[u8], at: usize, records: &[u8]) -> Valued
+    requires { ⌜ (at ≤ length (now text)) × HasRecords (now records) ⌝ }
+    ensures { λ r. ⌜ Closes (now (text .entry)) at (now (records .entry)) r ⌝ }
+{
+    let end = scan::skip(text, at);
+    Valued {
+        ok: true,
+        number: 0,
+        at: end,
+        bit: DICTIONARY,
+        size: sheet::lookup::count(records),
+        len: records.len(),
+    }
+}
+
+// A value, with so many levels of dictionaries left.
+pub fn value(
+    text: &[u8],
+    at: usize,
+    sheet: &[u8],
+    work: &mut [u8],
+    limit: usize,
+    levels: usize,
+) -> Valued
+    requires { ⌜ (at ≤ length (now text)) × Room (now work) limit levels × IsSheet (now sheet) ⌝ }
+    ensures { λ r. ⌜ ReadsValue limit (λ s. value limit s (dictionaryValue limit s levels)) (now (text .entry)) at (now (sheet .entry)) (now (work .entry)) (now (work .exit)) r ⌝ }
+{
+    let i = scan::span(text, at, Set::LineBlank);
+    if scan::at(text, i, b'"') {
+        return text_value(text, i, sheet, work, limit);
+    }
+    if scan::starts_with(text, i, b"(") {
+        return dictionary(text, i + 1, sheet, work, limit, levels);
+    }
+    if scan::starts_with(text, i, b"none") {
+        return none_value(i + 4);
+    }
+    if scan::sees(text, i, Set::UnderscoreOrLetter) {
+        return text_value(text, i, sheet, work, limit);
+    }
+    let end = scan::find(text, i, b'\n');
+    none_value(end)
+}
+
+// A dictionary behind its `(`: it grows at the start of the work buffer, and its values are read behind `limit`.
+fn dictionary(
+    text: &[u8],
+    at: usize,
+    sheet: &[u8],
+    work: &mut [u8],
+    limit: usize,
+    levels: usize,
+) -> Valued
+    requires { ⌜ (at ≤ length (now text)) × Room (now work) limit levels × IsSheet (now sheet) ⌝ }
+    ensures { λ r. ⌜ ReadsValue limit (λ s. dictionaryValue limit s levels) (now (text .entry)) at (now (sheet .entry)) (now (work .entry)) (now (work .exit)) r ⌝ }
+{
+    if levels == 0 {
+        return no_value(7, at);
+    }
+    let room = own_room(limit);
+    let mut i = at;
+    let mut n: usize = 0;
+    loop {
+        let j = scan::span(text, i, Set::CommaOrBlank);
+        if !scan::sees(text, j, Set::NotParen) {
+            return close(text, j, &work[..n]);
+        }
+        let k = scan::span(text, j, Set::Name);
+        let c = scan::span(text, k, Set::ColonOrBlank);
+        let v = value(text, c, sheet, &mut work[limit..], limit, levels - 1);
+        if !v.ok {
+            return no_value(v.number, v.at);
+        }
+        let end = limit + v.len;
+        let bound = sheet::bind::bind_behind(work, n, room, &text[j..k], v.bit, v.size, limit, end);
+        match bound {
+            Bound::Over => return no_value(9, v.at),
+            Bound::Length(m) => n = m,
+        }
+        i = v.at;
     }
 }

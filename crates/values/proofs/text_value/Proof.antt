@@ -9,7 +9,7 @@ use mathlib.Core.Path.{_≡_, refl, sym, ap, _∙_}
 use native.Mathlib.Omega.{arith}
 use lib.ListN.{length}
 use lib.Seq.{length-take-le}
-use Rattle.values.specs.Values.{text-size, text-inside, text-over, text-none, text-some}
+use Rattle.values.specs.Values.{slot-le, text-size, text-inside, text-over, text-none, text-some}
 
 own-room-requires : tie.Need-own-room-requires
 own-room-requires c κs = search needs
@@ -25,17 +25,20 @@ part-expression-end c = search needs
 
 slice-relend-prefix-expression : tie.Need-slice-relend-prefix-expression
 slice-relend-prefix-expression c =
-    let h = c .before .before .before .before .before .pre .1 .fits in
+    let h = slot-le (c .before .before .before .before .before .args .limit) 0 in
+    let g = c .before .before .before .before .before .pre .1 .fits in
     omega (arith, c .before .own-room .ensures)
 
 slice-aggregate-expression : tie.Need-slice-aggregate-expression
 slice-aggregate-expression c =
-    let h = c .before .before .before .before .before .before .pre .1 .fits in
+    let h = slot-le (c .before .before .before .before .before .before .args .limit) 0 in
+    let g = c .before .before .before .before .before .before .pre .1 .fits in
     sym (length-take-le _ _ (omega (arith, c .before .before .own-room .ensures)))
 
 expression-requires : tie.Need-expression-requires
 expression-requires c κs =
-    let h = c .before .before .before .before .before .before .pre .1 .fits in
+    let h = slot-le (c .before .before .before .before .before .before .args .limit) 0 in
+    let g = c .before .before .before .before .before .before .pre .1 .fits in
     (record { place = omega arith; fits = omega (arith, c .before .before .own-room .ensures, c .before .before .before .before .before .before .pre .1 .most) }, omega (arith, length-take-le (c .before .before .own-room .result) (c .before .before .before .before .before .before .args .work .now) (omega (arith, c .before .before .own-room .ensures))), c .before .before .before .before .before .before .pre .2)
 
 add-end : tie.Need-add-end
