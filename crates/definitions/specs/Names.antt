@@ -22,7 +22,7 @@ use Rattle.sheet.specs.Items.{At, Told, Holding, inner}
 use Rattle.sheet.specs.Order.{asked}
 use Rattle.sheet.specs.Find.{IsSheet, Level, Gives, Body, item-body, item-holding, item-rest}
 use Rattle.sheet.specs.Write.{Bindable, BindsTo, IsThere}
-use Rattle.sheet.specs.Use.{to-bind, bound-bytes, over-long}
+use Rattle.sheet.specs.Use.{Holds, holds-sheet, found-there, to-bind, bound-bytes, over-long}
 use Rattle.sheet.specs.declared.head.Item.{Item}
 use Rattle.sheet.specs.declared.lookup.Found.{Found}
 use Rattle.sheet.specs.declared.lookup.Found.the-variants.{Missing, None, Text, Dictionary}
@@ -37,13 +37,6 @@ pub record Ready (z b : List ℕ) (n limit : ℕ) : Type 0 where
   pub sheet : IsSheet (take n b)
   pub from : IsSheet z
 
--- The first n bytes of c are those of the good records s.
-pub record Holds (s : Records) (c : List ℕ) (n limit : ℕ) : Type 0 where
-  pub bytes : take n c ≡ encode s
-  pub long : n ≡ sheetLength s
-  pub fits : n ≤ limit
-  pub good : goodRecords s word 6 ≡ true
-
 -- What the answer a came to: refused with 9, or c holds its records.
 pub record Came (limit : ℕ) (a : Answer Records) (c : List ℕ) (o : Bound) : Type 0 where
   pub over : o ≡ Over → a ≡ refused 9
@@ -55,9 +48,6 @@ pub record BindsNames (names : Names) (z b : List ℕ) (n limit : ℕ) (c : List
   pub binds : (s : IsSheet (take n b)) (r : IsSheet z) → Came limit (bindNames limit (s .r) (r .r) names) c o
 
 -- LAWS. What the first bytes hold.
-abbrev pub holds-sheet : {s : Records} {c : List ℕ} {n limit : ℕ} → Holds s c n limit → IsSheet (take n c)
-holds-sheet {s} h = record { r = s; bytes = h .bytes; good = h .good }
-
 pub holds-bindable : {s : Records} {c : List ℕ} {n limit : ℕ} → Holds s c n limit → limit ≤ length c → limit ≤ 65535 → Bindable c n limit
 holds-bindable {s} h r m = record { inside = omega (arith, h .fits); room = r; small = m; sheet = to-bind (holds-sheet h) }
 
@@ -197,14 +187,7 @@ module _ {z b : List ℕ} {n limit : ℕ} (p : Ready z b n limit) {c : List ℕ}
           walk = λ s r. let y = meeting (k .walk s r) h in let t = d _ _ _ _ (y .part) in met-on y t (w _ (g _ (item-body t))) e (f _ _ (item-holding t));
         }
 
--- ONE NAME. What a lookup gave, of a name that is not missing.
-found-there : (s : List ℕ) (x : Option Value) (f : Found) → Gives s x f → (f ≡ Missing → ⊥) → (v : Value) × (x ≡ some v) × Gives s (some v) f
-unfolding Gives
-found-there s x Missing g h = absurd (h refl)
-found-there s x None g h = (nothing, g, refl)
-found-there s x (Text a b) g h = (text (g .0), g .1, (g .0, refl, g .2))
-found-there s x (Dictionary a b n) g h = (dictionary (g .0), g .1, (g .0, refl, g .2, g .3))
-
+-- ONE NAME.
 abbrev pub sheet-level : {z : List ℕ} → IsSheet z → Level z 0 (length z)
 sheet-level r = record { r = r .r; p = word; l = 6; part = sheet-part r; good = r .good }
 

@@ -8,6 +8,7 @@ use lib.ListN.{length, drop, length-append}
 use Rattle.rules.specs.Reader.{Reader, ret, ifR, _>>=_, _>>_, bytes, the, span, prefix, mark, loop, rounds, Turn, again, stop}
 use Rattle.rules.specs.Bytes.{word}
 use Rattle.rules.specs.Definitions.{Names, star, listed, listedMore, wordRound, names}
+use Rattle.rules.specs.Laws.Entries.{word-moving}
 use Rattle.rules.specs.Laws.Enough.{Moving, rounds-again, rounds-stop, span-split}
 use Rattle.scan.specs.Sets.{part, Spans, Starts}
 use Rattle.scan.specs.Laws.{mark-yes, mark-no}
@@ -30,32 +31,6 @@ round-yes ws t h = rw h refl
 round-no : (ws : List (List ℕ)) (t : List ℕ) → mark (bytes ",") (span (the " ") t .1) .0 ≡ false → wordRound ws t .0 ≡ stop (listed ws)
 unfolding wordRound _>>=_ _>>_ ifR ret
 round-no ws t h = rw h refl
-
--- A round that goes on moves.
-span-le : (p : ℕ → Bool) (t : List ℕ) → length (span p t .1) ≤ length t
-span-le p t = omega (arith, ap length (span-split p t) ∙ length-append (span p t .0) (span p t .1))
-
-mark-moves : (t : List ℕ) → mark (bytes ",") t .0 ≡ true → length (mark (bytes ",") t .1) < length t
-unfolding mark prefix
-mark-moves [] h = absurd (true≢false (sym h))
-mark-moves (x ∷ xs) h = at (prefix (bytes ",") (x ∷ xs)) refl h
-  where
-    at : (c : Bool) → prefix (bytes ",") (x ∷ xs) ≡ c → mark (bytes ",") (x ∷ xs) .0 ≡ true → length (mark (bytes ",") (x ∷ xs) .1) < suc (length xs)
-    at true q h = rw (q, mark) (omega arith)
-    at false q h = absurd (true≢false (sym (rw (q, mark) at h)))
-
-not-again : {A S : Type 0} {a : A} {s : S} → _≡_ {A = Turn S A} (stop a) (again s) → ⊥
-not-again h = let z : _≡_ {A = ℕ} 0 1 = cc in omega arith
-
-word-moving : Moving wordRound listed
-word-moving ws ws′ t h = at (mark (bytes ",") (span (the " ") t .1) .0) refl
-  where
-    at : (c : Bool) → mark (bytes ",") (span (the " ") t .1) .0 ≡ c → length (wordRound ws t .1) < length t
-    at true q =
-        let u = span (the " ") t .1 in
-        let v = mark (bytes ",") u .1 in
-        rw (round-yes ws t q) (omega (arith, span-le (the " ") t, mark-moves u q, span-le (the " ") v, span-le word (span (the " ") v .1)))
-    at false q = absurd (not-again (sym (round-no ws t q) ∙ h))
 
 -- What is read stands behind what was read before.
 more-of : (ws : List (List ℕ)) (w : List ℕ) → listedMore ws w ≡ ws ++ listedMore [] w

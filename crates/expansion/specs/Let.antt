@@ -19,7 +19,7 @@ use Rattle.scan.specs.declared.paths.Range.{Range}
 use Rattle.sheet.specs.Order.{asked}
 use Rattle.sheet.specs.Find.{IsSheet, Gives}
 use Rattle.sheet.specs.Write.{BindsTo, IsThere}
-use Rattle.sheet.specs.Use.{bound-bytes, over-long}
+use Rattle.sheet.specs.Use.{Holds, found-there, bound-bytes, over-long}
 use Rattle.sheet.specs.declared.lookup.Found.{Found}
 use Rattle.sheet.specs.declared.lookup.Found.the-variants.{Missing, None, Text, Dictionary}
 use Rattle.sheet.specs.declared.bind.Bound.{Bound}
@@ -48,16 +48,6 @@ pub record IsLine (t : List ℕ) (at : ℕ) (r : Line) : Type 0 where
 pub record BindsLine (b : List ℕ) (n limit : ℕ) (name v c : List ℕ) (o : Bound) : Type 0 where
   pub size : length c ≡ length b
   pub binds : (s : IsSheet (take n b)) → BindsTo b n limit (underscored name) (letValue v (resolve (s .r) v)) c o
-
--- The first n bytes of c are those of the good records s.
-pub record Holds (s : Records) (c : List ℕ) (n limit : ℕ) : Type 0 where
-  pub bytes : take n c ≡ encode s
-  pub long : n ≡ sheetLength s
-  pub fits : n ≤ limit
-  pub good : goodRecords s word 6 ≡ true
-
-abbrev pub holds-sheet : {s : Records} {c : List ℕ} {n limit : ℕ} → Holds s c n limit → IsSheet (take n c)
-holds-sheet {s} h = record { r = s; bytes = h .bytes; good = h .good }
 
 -- The step leaves the records `to`: c holds them, or they are too long.
 pub record LetLeaves (limit : ℕ) (t : List ℕ) (at : ℕ) (s : Records) (c : List ℕ) (r : Let) : Type 0 where
@@ -93,14 +83,7 @@ line-is {t} {a = a} x y z w m k = record {
   does = λ s. rw (x .rest, y .rest, y .took, z .rest, w .rest, w .took, k .rest, m .text) refl;
 }
 
--- BINDING. What a lookup gave, of a text that is not missing.
-found-there : (s : List ℕ) (x : Option Value) (f : Found) → Gives s x f → (f ≡ Missing → ⊥) → (v : Value) × (x ≡ some v) × Gives s (some v) f
-unfolding Gives
-found-there s x Missing g h = absurd (h refl)
-found-there s x None g h = (nothing, g, refl)
-found-there s x (Text a b) g h = (text (g .0), g .1, (g .0, refl, g .2))
-found-there s x (Dictionary a b n) g h = (dictionary (g .0), g .1, (g .0, refl, g .2, g .3))
-
+-- BINDING.
 module _ (b : List ℕ) (n : ℕ) (v : List ℕ) (f : Found) (told : (r : Records) → take n b ≡ encode r → goodRecords r word 6 ≡ true → Gives (take n b) (resolve r (asked false v)) f) where
   gives-line : (s : IsSheet (take n b)) → Gives (take n b) (resolve (s .r) v) f
   unfolding asked

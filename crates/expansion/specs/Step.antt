@@ -21,7 +21,8 @@ use Rattle.expansion.specs.declared.call_steps.Came.{Came}
 use Rattle.expansion.specs.declared.steps.Let.{Let}
 use Rattle.expansion.specs.declared.steps.Went.{Went}
 use Rattle.expansion.specs.declared.step.Stepped.{Stepped}
-use Rattle.expansion.specs.Let.{Imports, Holds, holds-sheet, Lets}
+use Rattle.sheet.specs.Use.{Holds, holds-sheet}
+use Rattle.expansion.specs.Let.{Imports, Lets}
 use Rattle.expansion.specs.Reference.{Refers}
 use Rattle.expansion.specs.Call.{Does, StepsBy}
 

@@ -2,16 +2,18 @@
 use mathlib.Core.Path.{_≡_, refl, sym, ap, _∙_}
 use mathlib.Core.Bool.{Bool, true, false, _&&_}
 use mathlib.Core.List.{List, [], _∷_}
-use mathlib.Core.Option.{some}
+use mathlib.Core.Option.{Option, some}
 use Prim.Native.Nat.{ℕ, zero, suc, _≤_, _<_}
 use lib.Dec.{ltb}
 use lib.ListN.{length, take, getD}
 use Rattle.rules.specs.Reader.{all}
 use Rattle.rules.specs.Bytes.{word}
-use Rattle.rules.specs.Sheet.{Value, Records, encode, sheetLength, goodRecords, goodValue, sheetOf, set}
+use Rattle.rules.specs.Sheet.{Value, text, nothing, dictionary, Records, encode, sheetLength, goodRecords, goodValue, sheetOf, set}
 use Rattle.rules.specs.Laws.Bool.{and-i, ltb-true, isSome, true-some}
 use Rattle.rules.specs.Laws.Sheet.{isByte, sheet-good, sheet-canonical, set-good}
-use Rattle.sheet.specs.Find.{IsSheet}
+use Rattle.sheet.specs.Find.{IsSheet, Gives}
+use Rattle.sheet.specs.declared.lookup.Found.{Found}
+use Rattle.sheet.specs.declared.lookup.Found.the-variants.{Missing, None, Text, Dictionary}
 use Rattle.sheet.specs.Place.{HasRecords}
 use Rattle.sheet.specs.Write.{Bindable, BindsTo, Leaves}
 use Rattle.sheet.specs.declared.bind.Bound.{Bound}
@@ -56,3 +58,21 @@ module _ {b : List ℕ} {n l : ℕ} {name : List ℕ} {v : Value} {c : List ℕ}
 
   pub bound-sheet : {m : ℕ} → goodRecords r word 6 ≡ true → all word name ≡ true → goodValue v 6 ≡ true → BindsTo b n l name v c (Length m) → IsSheet (take m c)
   bound-sheet g a o w = record { r = set r name v; bytes = bound-bytes w .1; good = set-good r word 6 name v g a o }
+
+-- The first n bytes of c are those of the good records s.
+pub record Holds (s : Records) (c : List ℕ) (n limit : ℕ) : Type 0 where
+  pub bytes : take n c ≡ encode s
+  pub long : n ≡ sheetLength s
+  pub fits : n ≤ limit
+  pub good : goodRecords s word 6 ≡ true
+
+abbrev pub holds-sheet : {s : Records} {c : List ℕ} {n limit : ℕ} → Holds s c n limit → IsSheet (take n c)
+holds-sheet {s} h = record { r = s; bytes = h .bytes; good = h .good }
+
+-- What a lookup gave, where nothing is missing.
+pub found-there : (s : List ℕ) (x : Option Value) (f : Found) → Gives s x f → (f ≡ Missing → ⊥) → (v : Value) × (x ≡ some v) × Gives s (some v) f
+unfolding Gives
+found-there s x Missing g h = absurd (h refl)
+found-there s x None g h = (nothing, g, refl)
+found-there s x (Text a b) g h = (text (g .0), g .1, (g .0, refl, g .2))
+found-there s x (Dictionary a b n) g h = (dictionary (g .0), g .1, (g .0, refl, g .2, g .3))
