@@ -1,0 +1,145 @@
+-- The steps of a file of definitions.
+use mathlib.Core.Path.{_≡_, refl, sym, ap, subst, _∙_}
+use mathlib.Core.List.{List, [], _∷_, _++_}
+use mathlib.Core.Bool.{Bool, true, false, true≢false, _&&_}
+use Prim.Native.Nat.{ℕ, _+_, _≤_, _<_}
+use native.Mathlib.Omega.{arith}
+use lib.Dec.{leb}
+use lib.ListN.{length, take, drop, take-append-drop}
+use lib.Seq.{length-take-le}
+use borrow.Author.Tests.{le-leb, lt-leb}
+use Rattle.rules.specs.Answer.{Answer, refused, accepted}
+use Rattle.rules.specs.Reader.{ret, ifR, _>>=_, _>>_, bytes, either, all, mark, prefix}
+use Rattle.rules.specs.Run.{ok, fail, Did}
+use Rattle.rules.specs.Bytes.{ascii, blank, word, nameByte, underscored}
+use Rattle.rules.specs.Sheet.{Value, Records, encode, sheetLength, goodRecords, set}
+use Rattle.rules.specs.Definitions.{Names, value, dictionaryValue, bound, letBound, letStep, definitionStep}
+use Rattle.rules.specs.Laws.Bool.{and-r}
+use Rattle.rules.specs.Laws.Texts.{all-right}
+use Rattle.rules.specs.Laws.Numbers.{numberedE}
+use Rattle.rules.specs.Laws.Values.{numberedOr, didHas, sheetGood, reads-definition}
+use Rattle.scan.specs.Sets.{part, Spans}
+use Rattle.buffers.specs.Emits.{guard, guard-yes, guard-no}
+use Rattle.sheet.specs.Order.{asked}
+use Rattle.sheet.specs.Find.{IsSheet}
+use Rattle.sheet.specs.Write.{IsSource, BindsTo}
+use Rattle.sheet.specs.Use.{Holds, holds-sheet, bound-bytes, over-long}
+use Rattle.sheet.specs.declared.bind.Bound.{Bound}
+use Rattle.sheet.specs.declared.bind.Bound.the-variants.{Over, Length}
+use Rattle.values.specs.declared.Valued.{Valued}
+use Rattle.values.specs.Values.{Taken, ReadsValue}
+use Rattle.definitions.specs.declared.steps.Stepped.{Stepped}
+
+-- The first n bytes of l are a sheet, which may grow up to the limit.
+pub record Keeps (l : List ℕ) (n limit : ℕ) : Type 0 where
+  pub fits : n ≤ limit
+  pub room : limit ≤ length l
+  pub most : limit ≤ 65535
+  pub sheet : IsSheet (take n l)
+
+keeps-holds : {l : List ℕ} {n limit : ℕ} (k : Keeps l n limit) → Holds (k .sheet .r) l n limit
+unfolding sheetLength
+keeps-holds {l} {n} k = record { bytes = k .sheet .bytes; long = sym (ap length (sym (k .sheet .bytes)) ∙ length-take-le n l (omega (arith, k .fits, k .room))); fits = k .fits; good = k .sheet .good }
+
+-- The step d binds, and m holds what it leaves.
+pub record Bound-so (limit : ℕ) (d : Did Records × List ℕ) (t m : List ℕ) (r : Stepped) : Type 0 where
+  pub emits : d .0 .emit ≡ ok
+  pub rest : d .1 ≡ drop (r .at) t
+  pub holds : Holds (d .0 .state) m (r .len) limit
+
+-- The step d, or its refusal.
+pub record Comes (limit : ℕ) (d : Did Records × List ℕ) (t m : List ℕ) (r : Stepped) : Type 0 where
+  pub goes : r .ok ≡ true → Bound-so limit d t m r
+  pub stops : r .ok ≡ false → guard sheetLength limit (d .0) ≡ fail (r .number)
+
+-- `#let` from `at` on, for the records in the first n bytes of l, which leaves m.
+pub record DefinesLet (limit : ℕ) (t : List ℕ) (at : ℕ) (l : List ℕ) (n : ℕ) (m : List ℕ) (r : Stepped) : Type 0 where
+  pub size : length m ≡ length l
+  pub on : at ≤ r .at
+  pub inside : r .at ≤ length t
+  pub does : (i : Records → List ℕ → Names → Answer Records) (s : Records) → Holds s l n limit → Comes limit (letStep limit i s (drop at t)) t m r
+
+-- LAWS. What a `#let` leaves is good.
+same : Records → List ℕ → Names → Answer Records
+same s p n = accepted s
+
+good-let : (L : ℕ) (i : Records → List ℕ → Names → Answer Records) (s : Records) (t : List ℕ) → all ascii t ≡ true → goodRecords s word 6 ≡ true → goodRecords (letStep L i s t .0 .state) word 6 ≡ true
+unfolding definitionStep letStep mark prefix ifR _>>=_ _>>_ all ascii didHas numberedOr same
+good-let L i s t a g =
+    let d = letStep L i s t .0 in
+    and-r (numberedE (d .emit)) (goodRecords (d .state) word 6) (reads-definition L same (λ s p n h. h) s g .reads (bytes "#let" ++ t) a .answer)
+
+within : {s : Records} {l : List ℕ} {n limit : ℕ} (d : Did Records) → d .state ≡ s → Holds s l n limit → guard sheetLength limit d ≡ d .emit
+within {limit = limit} d e h = guard-yes sheetLength limit d (le-leb _ limit (omega (arith, ap sheetLength e, h .long, h .fits)))
+
+module _ (limit : ℕ) {t : List ℕ} {at a b e : ℕ} (X : Spans blank t at a) (Y : Spans nameByte t a b) (Z : Spans (either "=" blank) t b e) where
+  let-reads : (i : Records → List ℕ → Names → Answer Records) (s : Records) → letStep limit i s (drop at t) ≡ (letBound s (underscored (part t a b)) (value limit s (dictionaryValue limit s 6) (drop e t) .0), value limit s (dictionaryValue limit s 6) (drop e t) .1)
+  unfolding letStep _>>=_ _>>_ ret
+  let-reads i s = rw (X .rest, Y .rest, Y .took, Z .rest) refl
+
+  module _ {l : List ℕ} {n : ℕ} {w w₂ : List ℕ} {v : Valued} (R : ReadsValue limit (λ s. value limit s (dictionaryValue limit s 6)) t e (take n l) w w₂ v) where
+    pub let-no : v .ok ≡ false → DefinesLet limit t at l n l (record { ok = false; number = v .number; at = v .at; len = n })
+    unfolding letBound bound
+    let-no h = record {
+      size = refl;
+      on = omega (arith, X .on, Y .on, Z .on, R .on);
+      inside = R .inside;
+      does = λ i s g. record {
+        goes = λ y. absurd (true≢false (sym y));
+        stops = λ y. ap (λ x. guard sheetLength limit (x .0)) (let-reads i s) ∙ ap (λ x. guard sheetLength limit (letBound s (underscored (part t a b)) x)) (R .stops (holds-sheet g) h) ∙ within (bound s (refused (v .number))) refl g;
+      };
+    }
+
+    module _ (h : v .ok ≡ true) where
+      taken : {s : Records} (g : Holds s l n limit) → Taken (value limit s (dictionaryValue limit s 6) (drop e t)) t w₂ v
+      taken g = R .goes (holds-sheet g) h
+
+      -- What is bound.
+      let-is : (i : Records → List ℕ → Names → Answer Records) {s : Records} (g : Holds s l n limit) → letStep limit i s (drop at t) ≡ (bound s (accepted (set s (underscored (part t a b)) (taken g .v))), drop (v .at) t)
+      unfolding letBound
+      let-is i {s} g = let-reads i s ∙ λ y. (letBound s (underscored (part t a b)) (taken g .is y), taken g .rest y)
+
+      module _ {m : List ℕ} {o : Bound} (B : (x : Value) → IsSource x (v .bit) (v .size) (take (v .len) w₂) → BindsTo l n limit (asked true (part t a b)) x m o) where
+        binds : {s : Records} (g : Holds s l n limit) → BindsTo l n limit (underscored (part t a b)) (taken g .v) m o
+        unfolding asked
+        binds g = B (taken g .v) (taken g .source)
+
+        module _ (k : Keeps l n limit) where
+          pub let-size : length m ≡ length l
+          let-size = binds (keeps-holds k) .long
+
+          pub let-over : o ≡ Over → DefinesLet limit t at l n m (record { ok = false; number = 9; at = v .at; len = n })
+          unfolding bound
+          let-over y = record {
+            size = let-size;
+            on = omega (arith, X .on, Y .on, Z .on, R .on);
+            inside = R .inside;
+            does = λ i s g. record {
+              goes = λ z. absurd (true≢false (sym z));
+              stops = λ z. ap (λ x. guard sheetLength limit (x .0)) (let-is i g) ∙ guard-no sheetLength limit _ (lt-leb _ limit (over-long s (g .bytes) (rw y at (binds g))));
+            };
+          }
+
+          pub let-bound : {p : ℕ} → all ascii t ≡ true → o ≡ Length p → DefinesLet limit t at l n m (record { ok = true; number = 0; at = v .at; len = p })
+          unfolding bound
+          let-bound {p} u y = record {
+            size = let-size;
+            on = omega (arith, X .on, Y .on, Z .on, R .on);
+            inside = R .inside;
+            does = λ i s g.
+                let x = bound-bytes s (g .bytes) (rw y at (binds g)) in
+                let j = let-is i g in
+                record {
+                  goes = λ z. record {
+                    emits = ap (λ q. q .0 .emit) j;
+                    rest = ap (λ q. q .1) j;
+                    holds = record {
+                      bytes = x .1 ∙ ap (λ q. encode (q .0 .state)) (sym j);
+                      long = x .2 ∙ ap (λ q. sheetLength (q .0 .state)) (sym j);
+                      fits = x .0;
+                      good = good-let limit i s (drop at t) (all-right ascii (take at t) (drop at t) (ap (all ascii) (take-append-drop at t) ∙ u)) (g .good);
+                    };
+                  };
+                  stops = λ z. absurd (true≢false z);
+                };
+          }

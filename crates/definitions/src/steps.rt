@@ -1,0 +1,70 @@
+// The step `#let` of a file of definitions, from behind its mark.
+use scan::Set;
+use sheet::bind::Bound;
+ghost use mathlib.Core.Path.{_≡_};
+ghost use mathlib.Core.Bool.{true};
+ghost use Prim.Native.Nat.{_≤_};
+ghost use lib.ListN.{length};
+ghost use Rattle.rules.specs.Reader.{all};
+ghost use Rattle.rules.specs.Bytes.{ascii};
+ghost use Rattle.values.specs.Values.{Room};
+ghost use Rattle.definitions.specs.Steps.{Keeps, DefinesLet};
+
+// What a step came to: is nothing refused; if something is, the refusal's number; where reading goes on, and the sheet's length.
+pub struct Stepped {
+    pub ok: bool,
+    pub number: u8,
+    pub at: usize,
+    pub len: usize,
+}
+
+// Binds the name of a `#let`, each `-` made `_`, to the value behind it.
+pub fn let_step(
+    text: &[u8],
+    at: usize,
+    left: &mut [u8],
+    n: usize,
+    limit: usize,
+    work: &mut [u8],
+) -> Stepped
+    requires { ⌜ (at ≤ length (now text)) × (all ascii (now text) ≡ true) × Keeps (now left) n limit × Room (now work) limit 6 ⌝ }
+    ensures { λ r. ⌜ (length (now (work .exit)) ≡ length (now (work .entry))) × DefinesLet limit (now (text .entry)) at (now (left .entry)) n (now (left .exit)) r ⌝ }
+{
+    let from = scan::span(text, at, Set::Blank);
+    let to = scan::span(text, from, Set::Name);
+    let i = scan::span(text, to, Set::EqualsOrBlank);
+    let v = values::value(text, i, &left[..n], work, limit, 6);
+    if !v.ok {
+        return Stepped {
+            ok: false,
+            number: v.number,
+            at: v.at,
+            len: n,
+        };
+    }
+    let len = v.len;
+    let bound = sheet::bind::bind_value(
+        left,
+        n,
+        limit,
+        &text[from..to],
+        true,
+        v.bit,
+        v.size,
+        &work[..len],
+    );
+    match bound {
+        Bound::Over => Stepped {
+            ok: false,
+            number: 9,
+            at: v.at,
+            len: n,
+        },
+        Bound::Length(m) => Stepped {
+            ok: true,
+            number: 0,
+            at: v.at,
+            len: m,
+        },
+    }
+}
