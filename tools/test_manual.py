@@ -50,11 +50,12 @@ class Manual(unittest.TestCase):
             self.assertTrue(r.stderr.startswith(b'manual: refused %d: ' % n), r.stderr)
 
     def test_two_tells_the_length(self):
-        self.put('folder/long', 'x' * 20000)
-        self.program('#!/bin/sh\ncat > /dev/null\necho refused 2\n')
+        self.put('folder/long', 'x' * 60000)
+        self.put('folder/longer', 'x' * 65535)
+        self.program('#!/bin/sh\nhead -c 16385 > /dev/null\necho refused 2\n')
         r = self.run_manual()
         self.assertIn(b'16,384 bytes', r.stderr)
-        self.assertIn(b'this folder packs to 20,026 bytes', r.stderr)
+        self.assertIn(b'this folder packs to 125,571 bytes', r.stderr)
 
     def test_six_tells_the_place(self):
         self.put('folder/a/b.typ', 'x\n\u00b5V\n')
