@@ -8,6 +8,7 @@ ghost use Rattle.sheet.specs.Find.{foundKind};
 ghost use Rattle.builder.specs.Files.{fileAnswer};
 ghost use Rattle.builder.specs.Text.{TextAt, Gave, Refuses, RefusesBoth};
 
+pub mod define;
 mod given;
 
 // A lookup's answer. Kind: 0 missing, 1 none, 2 text, 3 dictionary.
