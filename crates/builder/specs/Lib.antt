@@ -4,3 +4,4 @@ pub mod Files
 pub mod Includes
 pub mod Given
 pub mod Expansion
+pub mod Pass

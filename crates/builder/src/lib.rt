@@ -9,6 +9,7 @@ ghost use Rattle.builder.specs.Files.{fileAnswer};
 ghost use Rattle.builder.specs.Text.{TextAt, Gave, Refuses, RefusesBoth};
 
 mod given;
+pub mod pass;
 
 // A lookup's answer. Kind: 0 missing, 1 none, 2 text, 3 dictionary.
 #[repr(C)]
