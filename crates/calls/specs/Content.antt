@@ -7,7 +7,7 @@ use Prim.Native.Nat.{ℕ, zero, suc, _+_, _-_, _^_, _≤_, _<_}
 use native.Mathlib.Omega.{arith}
 use lib.Dec.{leb, eqb}
 use lib.ListN.{length, take, drop, length-drop}
-use lib.Seq.{sets, drop-drop}
+use lib.Seq.{drop-drop}
 use borrow.Author.Tests.{lt-leb, eq-eqb, ne-eqb, eqb-true, eqb-false}
 use Rattle.rules.specs.Answer.{Answer, refused, accepted}
 use Rattle.rules.specs.Reader.{Reader, bytes, but, prefix, span, sees, skip, mark, ret, ifR, _>>=_, _>>_}
@@ -19,8 +19,8 @@ use Rattle.scan.specs.Sets.{Spans, Skips, Sees, Starts, byteIs}
 use Rattle.scan.specs.Laws.{sees-the, skips-at, mark-of, mark-yes, mark-no}
 use Rattle.scan.specs.Paths.{drop-take, tail-part}
 use Rattle.bundle.specs.Open.{Opens, answerOf, stop, long-opened}
-use Rattle.buffers.specs.Laws.{put-fits, put-not, stored-first}
 use Rattle.strings.specs.Read.{Wrote}
+use Rattle.strings.specs.Paths.{PathIn}
 use Rattle.bundle.specs.declared.Opened.{Opened}
 use Rattle.bundle.specs.declared.Opened.the-variants.{Refused, Text}
 use Rattle.calls.specs.declared.values.Value.{Value}
@@ -29,11 +29,6 @@ use Rattle.calls.specs.declared.content.Told.{Told}
 use Rattle.calls.specs.declared.content.Told.the-variants.{Given, HandedBack, Refused as Bad}
 use Rattle.calls.specs.declared.content.Content.{Content as Read}
 use Rattle.calls.specs.Values.{valueText, Inside, Ends, expression-rest}
-
--- The path p stands in the first n bytes, or is longer than 256.
-pub record PathIn (p path : List ℕ) (n : ℕ) : Type 0 where
-  pub fits : n ≤ 256 → take n path ≡ p
-  pub long : 256 < n → 256 < length p
 
 -- What was opened, as a content.
 unfoldable pub FileIs : Opened → Told → Type 0
@@ -58,16 +53,7 @@ pub record Contents (c : Content × List ℕ) (look : List ℕ → List ℕ) (b 
   pub within : ToldInside b t (r .told)
   pub says : c ≡ (toldContent look b t (r .told), drop (r .at) t)
 
--- THE PATH OF A FILE.
-pub path-in : {t b path : List ℕ} {n : ℕ} {w : List ℕ × List ℕ} {k : ℕ} → length b ≡ 256 → Wrote 256 w t b 0 path k n → PathIn (w .0) path n
-path-in {t} {b} {path} {n} {w} {k} l r = record {
-  fits = λ h.
-      let f : n ≡ length (w .0) = omega (arith, put-fits (r .put) (omega arith) h) in
-      ap (take n) (r .put .stored) ∙ ap (λ z. take z (sets b 0 (w .0))) f ∙ stored-first b (w .0) (omega arith);
-  long = λ h. omega (arith, put-not (r .put) (omega arith) h);
-}
-
--- One leading `/`.
+-- THE PATH OF A FILE. One leading `/`.
 slash-at : (x : ℕ) (xs : List ℕ) (c : Bool) → eqb 47 x ≡ c → withoutSlash (x ∷ xs) ≡ elim c [ true ↦ xs | false ↦ x ∷ xs ]
 unfolding withoutSlash prefix
 slash-at x xs true e = ap (λ z. z .1) (mark-of (bytes "/") (x ∷ xs) true (rw e refl))

@@ -16,7 +16,8 @@ ghost use Rattle.rules.specs.Laws.Bool.{isSome};
 ghost use Rattle.bundle.specs.Find.{entriesOf};
 ghost use Rattle.bundle.specs.Open.{Opens, stop};
 ghost use Rattle.sheet.specs.Find.{IsSheet};
-ghost use Rattle.calls.specs.Content.{PathIn, FileIs, Contents};
+ghost use Rattle.strings.specs.Paths.{PathIn};
+ghost use Rattle.calls.specs.Content.{FileIs, Contents};
 
 // What a call's content is: a value, handed back, or refused.
 pub enum Told {

@@ -1,17 +1,19 @@
 -- The words of an import, one round at a time.
 use mathlib.Core.Path.{_≡_, refl, sym, ap, _∙_}
-use mathlib.Core.Bool.{Bool, true, false, true≢false}
+use mathlib.Core.Bool.{Bool, true, false, not, true≢false}
 use mathlib.Core.List.{List, [], _∷_, _++_, append-nil, append-assoc}
 use Prim.Native.Nat.{ℕ, zero, suc, _+_, _≤_, _<_}
 use native.Mathlib.Omega.{arith}
 use lib.ListN.{length, drop, length-append}
-use Rattle.rules.specs.Reader.{Reader, ret, ifR, _>>=_, _>>_, bytes, the, span, prefix, mark, loop, rounds, Turn, again, stop}
+use lib.Dec.{eqb}
+use borrow.Author.Tests.{eqb-true}
+use Rattle.rules.specs.Reader.{Reader, ret, ifR, _>>=_, _>>_, bytes, the, but, span, prefix, mark, loop, rounds, Turn, again, stop}
 use Rattle.rules.specs.Bytes.{word}
 use Rattle.rules.specs.Definitions.{Names, star, listed, listedMore, wordRound, names}
 use Rattle.rules.specs.Laws.Entries.{word-moving}
 use Rattle.rules.specs.Laws.Enough.{Moving, rounds-again, rounds-stop, span-split}
 use Rattle.scan.specs.Sets.{part, Spans, Starts}
-use Rattle.scan.specs.Laws.{mark-yes, mark-no}
+use Rattle.scan.specs.Laws.{mark-yes, mark-no, mark-of, prefix-split}
 use Rattle.sheet.specs.declared.bind.Bound.{Bound}
 use Rattle.sheet.specs.declared.bind.Bound.the-variants.{Over, Length}
 use Rattle.definitions.specs.Names.{Ready, BindsNames, names-as, none-bound, names-over, names-then, ready-on}
@@ -131,3 +133,82 @@ module _ {t : List ℕ} {at : ℕ} {f : Bool} (m : Starts (bytes "*") t at f) wh
   pub names-words : f ≡ false → words (drop at t) .0 ≡ names (drop at t) .0
   unfolding names words _>>=_ ifR ret
   names-words e = rw (mark-no m e) refl
+
+-- LINES. Behind a stretch without newline the line ends where it ended before.
+not-newline : (q : ℕ → Bool) → q 10 ≡ false → (x : ℕ) → q x ≡ true → but "\n" x ≡ true
+unfolding but
+not-newline q h x e = at (eqb x 10) refl
+  where
+    at : (c : Bool) → eqb x 10 ≡ c → not (eqb x 10) ≡ true
+    at true z = absurd (true≢false (sym e ∙ ap q (eqb-true x 10 z) ∙ h))
+    at false z = rw z refl
+
+past : (q : ℕ → Bool) → q 10 ≡ false → (t : List ℕ) → span (but "\n") (span q t .1) .1 ≡ span (but "\n") t .1
+unfolding span
+past q h [] = refl
+past q h (x ∷ xs) = at (q x) refl (past q h xs)
+  where
+    at : (c : Bool) → q x ≡ c → span (but "\n") (span q xs .1) .1 ≡ span (but "\n") xs .1 → span (but "\n") (span q (x ∷ xs) .1) .1 ≡ span (but "\n") (x ∷ xs) .1
+    at true e ih =
+        let a : span q (x ∷ xs) .1 ≡ span q xs .1 = rw (e, span) refl in
+        let b : span (but "\n") (x ∷ xs) .1 ≡ span (but "\n") xs .1 = rw (not-newline q h x e, span) refl in
+        ap (λ z. span (but "\n") z .1) a ∙ ih ∙ sym b
+    at false e ih =
+        let a : span q (x ∷ xs) .1 ≡ x ∷ xs = rw (e, span) refl in
+        ap (λ z. span (but "\n") z .1) a
+
+word-newline : word 10 ≡ false
+unfolding word the Rattle.rules.specs.Bytes.letter Rattle.rules.specs.Bytes.digit
+word-newline = refl
+
+-- A mark of one byte, which is no newline.
+past-mark : (c : ℕ) → but "\n" c ≡ true → (t : List ℕ) → span (but "\n") (mark (c ∷ []) t .1) .1 ≡ span (but "\n") t .1
+unfolding span
+past-mark c h t = at (prefix (c ∷ []) t) refl
+  where
+    at : (r : Bool) → prefix (c ∷ []) t ≡ r → span (but "\n") (mark (c ∷ []) t .1) .1 ≡ span (but "\n") t .1
+    at true e =
+        let a : span (but "\n") ((c ∷ []) ++ drop 1 t) .1 ≡ span (but "\n") (drop 1 t) .1 = rw (h, span) refl in
+        ap (λ z. span (but "\n") (z .1) .1) (mark-of (c ∷ []) t true e) ∙ sym a ∙ ap (λ z. span (but "\n") z .1) (sym (prefix-split (c ∷ []) t e))
+    at false e = ap (λ z. span (but "\n") (z .1) .1) (mark-of (c ∷ []) t false e)
+
+-- A round of words, and all of them.
+module _ (t : List ℕ) where
+  comma-line : span (but "\n") (mark (bytes ",") (span (the " ") t .1) .1) .1 ≡ span (but "\n") t .1
+  comma-line = unfold but the in (past-mark 44 refl (span (the " ") t .1) ∙ past (the " ") refl t)
+
+  word-line : span (but "\n") (span word (span (the " ") (mark (bytes ",") (span (the " ") t .1) .1) .1) .1) .1 ≡ span (but "\n") t .1
+  word-line = unfold the in (past word word-newline _ ∙ past (the " ") refl _ ∙ comma-line)
+
+loop-line : (n : ℕ) (ws : List (List ℕ)) (t : List ℕ) → length t < n → span (but "\n") (loop wordRound listed n ws t .1) .1 ≡ span (but "\n") t .1
+loop-line zero ws t h = absurd (omega arith)
+loop-line (suc n) ws t h = at (mark (bytes ",") (span (the " ") t .1) .0) refl (loop-line n)
+  where
+    at : (c : Bool) → mark (bytes ",") (span (the " ") t .1) .0 ≡ c → ((ws : List (List ℕ)) (u : List ℕ) → length u < n → span (but "\n") (loop wordRound listed n ws u .1) .1 ≡ span (but "\n") u .1) →
+        span (but "\n") (loop wordRound listed (suc n) ws t .1) .1 ≡ span (but "\n") t .1
+    at true q ih =
+        let w = span word (span (the " ") (mark (bytes ",") (span (the " ") t .1) .1) .1) in
+        let e = round-yes ws t q in
+        let m = word-moving ws (listedMore ws (w .0)) t (ap (λ y. y .0) e) in
+        let k : length (w .1) < n = omega (arith, ap (λ y. length (y .1)) e, m) in
+        ap (λ y. span (but "\n") (y .1) .1) (loop-yes n ws t w e) ∙ ih (listedMore ws (w .0)) (w .1) k ∙ word-line t
+    at false q ih =
+        let e : loop wordRound listed (suc n) ws t .1 ≡ wordRound ws t .1 = unfold loop in (rw (round-no ws t q, loop) refl) in
+        let r : wordRound ws t .1 ≡ mark (bytes ",") (span (the " ") t .1) .1 = unfold wordRound _>>=_ _>>_ ifR ret in (rw q refl) in
+        ap (λ y. span (but "\n") y .1) (e ∙ r) ∙ comma-line t
+
+-- The names of an import stand in one line.
+pub names-line : (t : List ℕ) → span (but "\n") (names t .1) .1 ≡ span (but "\n") t .1
+unfolding names _>>=_ ifR ret
+names-line t = at (mark (bytes "*") t .0) refl
+  where
+    star-line : span (but "\n") (mark (bytes "*") t .1) .1 ≡ span (but "\n") t .1
+    star-line = unfold but in past-mark 42 refl t
+
+    at : (c : Bool) → mark (bytes "*") t .0 ≡ c → span (but "\n") (names t .1) .1 ≡ span (but "\n") t .1
+    at true q = rw q star-line
+    at false q =
+        let u = mark (bytes "*") t .1 in
+        let w = span word u in
+        let x : span (but "\n") (rounds wordRound listed (w .0 ∷ []) (w .1) .1) .1 ≡ span (but "\n") (w .1) .1 = unfold rounds in (loop-line (suc (length (w .1))) (w .0 ∷ []) (w .1) (omega arith)) in
+        rw q (x ∙ past word word-newline u ∙ star-line)

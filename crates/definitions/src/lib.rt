@@ -1,3 +1,4 @@
 // Files of definitions (document 01, section 7).
+pub mod imports;
 pub mod names;
 pub mod steps;

@@ -14,7 +14,8 @@ use mathlib.Core.Path.{_≡_, sym}
 use native.Mathlib.Omega.{arith}
 use lib.ListN.{length, length-take, length-drop}
 use borrow.Author.Tests.{not-true, not-false}
-use Rattle.calls.specs.Content.{read-back, read-file, path-in}
+use Rattle.strings.specs.Paths.{path-in}
+use Rattle.calls.specs.Content.{read-back, read-file}
 use Rattle.scan.specs.Stretches.{spans-but}
 
 span-requires : tie.Need-span-requires
