@@ -85,7 +85,12 @@ pub record ImportsAt (v : View) (levels : ℕ) (b g t : List ℕ) (at : ℕ) (r 
   pub within : Readable levels b (r .path) (r .target)
   pub does : (L : ℕ) (s : Records) → importStep L (imported L v (importedSheet L v levels) g) s (drop at t) ≡ (bound s (comesTo L v levels b (r .path) (r .target) s (names (drop (r .names) t) .0)), drop (r .next) t)
 
--- LAWS. An import, by what the scans gave.
+-- LAWS. The file of an import is there to be read.
+pub file-there : {v : View} {levels : ℕ} {b g t : List ℕ} {at : ℕ} {r : Imported} → ImportsAt v levels b g t at r → {a e m : ℕ} → r .target ≡ Found-at a e m → (0 < levels) × (a ≤ e) × (e ≤ length b) × (m ≤ length (r .path)) × (all ascii (part b a e) ≡ true)
+unfolding Readable
+file-there I h = rw h at (I .within)
+
+-- An import, by what the scans gave.
 module _ {t : List ℕ} {at i : ℕ} (X : Spans blank t at i) {c : Bool} (q : Sees (byteIs 34) t i c) where
   pub import-none : {path : List ℕ} {e : ℕ} → length path ≡ 256 → c ≡ false → Spans (but "\n") t i e → ReadsImport t at (record { found = false; path = path; len = 0; names = e; next = e })
   unfolding importStep Rattle.rules.specs.Reader._>>=_ Rattle.rules.specs.Reader._>>_ Rattle.rules.specs.Reader.ifR Rattle.rules.specs.Reader.ret

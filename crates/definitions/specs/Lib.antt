@@ -2,3 +2,4 @@ pub mod Names
 pub mod Words
 pub mod Steps
 pub mod Import
+pub mod File

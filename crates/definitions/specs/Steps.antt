@@ -37,7 +37,7 @@ pub record Keeps (l : List ℕ) (n limit : ℕ) : Type 0 where
   pub most : limit ≤ 65535
   pub sheet : IsSheet (take n l)
 
-keeps-holds : {l : List ℕ} {n limit : ℕ} (k : Keeps l n limit) → Holds (k .sheet .r) l n limit
+pub keeps-holds : {l : List ℕ} {n limit : ℕ} (k : Keeps l n limit) → Holds (k .sheet .r) l n limit
 unfolding sheetLength
 keeps-holds {l} {n} k = record { bytes = k .sheet .bytes; long = sym (ap length (sym (k .sheet .bytes)) ∙ length-take-le n l (omega (arith, k .fits, k .room))); fits = k .fits; good = k .sheet .good }
 
@@ -69,7 +69,7 @@ good-let L i s t a g =
     let d = letStep L i s t .0 in
     and-r (numberedE (d .emit)) (goodRecords (d .state) word 6) (reads-definition L same (λ s p n h. h) s g .reads (bytes "#let" ++ t) a .answer)
 
-within : {s : Records} {l : List ℕ} {n limit : ℕ} (d : Did Records) → d .state ≡ s → Holds s l n limit → guard sheetLength limit d ≡ d .emit
+pub within : {s : Records} {l : List ℕ} {n limit : ℕ} (d : Did Records) → d .state ≡ s → Holds s l n limit → guard sheetLength limit d ≡ d .emit
 within {limit = limit} d e h = guard-yes sheetLength limit d (le-leb _ limit (omega (arith, ap sheetLength e, h .long, h .fits)))
 
 module _ (limit : ℕ) {t : List ℕ} {at a b e : ℕ} (X : Spans blank t at a) (Y : Spans nameByte t a b) (Z : Spans (either "=" blank) t b e) where

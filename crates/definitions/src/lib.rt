@@ -1,4 +1,5 @@
 // Files of definitions (document 01, section 7).
+pub mod files;
 pub mod imports;
 pub mod names;
 pub mod steps;

@@ -6,7 +6,7 @@ use Prim.Native.Nat.{ℕ, zero, suc, _+_, _-_, _*_, _≤_, _<_}
 use native.Mathlib.Omega.{arith}
 use lib.Dec.{leb}
 use lib.ListN.{length, take, drop, length-append, length-drop, drop-of-length-le}
-use lib.Seq.{length-take-le, take-append-le, take-take, drop-at}
+use lib.Seq.{length-take-le, take-append-le, drop-at}
 use borrow.Author.Tests.{le-leb, lt-leb}
 use Rattle.rules.specs.Answer.{Answer, refused, accepted}
 use Rattle.rules.specs.Reader.{Reader, ret, ifR, _>>=_, _>>_, bytes, the, but, either, span, sees, skip, mark, rounds, Turn, again, stop}
@@ -26,7 +26,7 @@ use Rattle.sheet.specs.Write.{IsSource, HasSource, Bindable, BindsTo, Leaves, s
 use Rattle.sheet.specs.declared.bind.Bound.{Bound}
 use Rattle.sheet.specs.declared.bind.Bound.the-variants.{Over, Length}
 use Rattle.values.specs.declared.Valued.{Valued}
-use Rattle.values.specs.Values.{Room, room-two, room-behind, Taken, ReadsValue, IsNone, Refused, Closes}
+use Rattle.values.specs.Values.{Room, room-two, room-behind, lent-size, lent-first, Taken, ReadsValue, IsNone, Refused, Closes}
 
 -- What f reads from i on is what g reads from `at` on.
 reads-as : {limit : ℕ} {f g : Records → Reader (Answer Value)} {t : List ℕ} {at i : ℕ} {z w c : List ℕ} {r : Valued} → ((s : Records) → g s (drop at t) ≡ f s (drop i t)) → at ≤ i → ReadsValue limit f t i z w c r → ReadsValue limit g t at z w c r
@@ -174,12 +174,11 @@ module _ (limit l : ℕ) {t : List ℕ} {at : ℕ} {z w c : List ℕ} {i n : ℕ
       rest-long = U .size ∙ ap length (tail-part c limit) ∙ length-drop limit c
 
       pub after-size : length after ≡ length c
-      after-size =
-          length-append (take limit c) (o ++ drop (length c - limit) (drop limit c)) ∙ omega (arith, length-take-le limit c (omega arith), length-append o (drop (length c - limit) (drop limit c)), rest-long, length-drop (length c - limit) (drop limit c), length-drop limit c)
+      after-size = lent-size limit c o (omega arith) (U .size)
 
       -- The records stay, and the value's own bytes stand behind the slot.
       pub after-records : n ≤ limit → take n after ≡ take n c
-      after-records h = take-append-le n (take limit c) (o ++ drop (length c - limit) (drop limit c)) (omega (arith, length-take-le limit c (omega arith))) ∙ take-take n limit c h
+      after-records h = lent-first limit c o (omega arith) (U .size) n h
 
       pub after-own : v .len ≤ length o → slice limit (limit + v .len) after ≡ take (v .len) o
       after-own h =

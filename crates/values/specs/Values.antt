@@ -8,7 +8,7 @@ use native.Mathlib.Omega.{arith}
 use native.Mathlib.Decide.{decLe}
 use lib.Dec.{eqb, leb, ltb}
 use lib.ListN.{length, take, drop, length-append, length-drop}
-use lib.Seq.{sets, drop-drop, length-take-le, take-append-le}
+use lib.Seq.{sets, drop-drop, length-take-le, take-append-le, take-take}
 use borrow.Author.Tests.{le-leb, lt-leb, ltb-true, ltb-false, eqb-true, eqb-false}
 use Rattle.rules.specs.Answer.{Answer, refused, accepted}
 use Rattle.rules.specs.Reader.{Reader, ret, _>>=_}
@@ -93,6 +93,19 @@ room-two c {limit = limit} {l = l} h k e = omega (arith, slot-more limit l k, sl
 
 pub room-behind : (c : List ℕ) {w : List ℕ} {limit l : ℕ} → Room w limit l → (l ≡ 0 → ⊥) → length c ≡ length w → Room (take (length c - limit) (drop limit c)) limit (l - 1)
 room-behind c {limit = limit} {l = l} h k e = record { fits = omega (arith, slot-more limit l k, h .fits, ap length (tail-part c limit), length-drop limit c); most = h .most }
+
+-- What is lent behind the limit comes back as o; what stands before it is as it was.
+module _ (limit : ℕ) (c o : List ℕ) (f : limit ≤ length c) (e : length o ≡ length (take (length c - limit) (drop limit c))) where
+  abbrev pub lent : List ℕ
+  lent = take limit c ++ (o ++ drop (length c - limit) (drop limit c))
+
+  pub lent-size : length lent ≡ length c
+  lent-size =
+      length-append (take limit c) (o ++ drop (length c - limit) (drop limit c))
+      ∙ omega (arith, length-take-le limit c f, length-append o (drop (length c - limit) (drop limit c)), e, ap length (tail-part c limit), length-drop (length c - limit) (drop limit c), length-drop limit c)
+
+  pub lent-first : (n : ℕ) → n ≤ limit → take n lent ≡ take n c
+  lent-first n h = take-append-le n (take limit c) (o ++ drop (length c - limit) (drop limit c)) (omega (arith, length-take-le limit c f)) ∙ take-take n limit c h
 
 -- How long a text's value is.
 text-length : (t : List ℕ) → (length t ≡ 0 → valueLength (text t) ≡ 1) × ((length t ≡ 0 → ⊥) → valueLength (text t) ≡ 3 + length t)
