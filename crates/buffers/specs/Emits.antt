@@ -272,10 +272,3 @@ pub guarded-emitted : (t : Trace (List ℕ)) → guarded (λ h. 0) 0 t ≡ emitt
 unfolding guarded guard emitted
 guarded-emitted (fin s) = refl
 guarded-emitted (step d t) = ap (andThen (d .emit)) (guarded-emitted t)
-
-pub limited-write : (full : ℕ) (t : Trace (List ℕ)) (r : ℕ) → (limited (λ h. 0) 0 full r t >>= λ x. accepted (x .0)) ≡ write full r (emitted t)
-limited-write full t r = ap (λ z. z >>= λ x. accepted (x .0)) (limited-guarded (λ h. 0) 0 full t r) ∙ at (write full r (guarded (λ h. 0) 0 t)) ∙ ap (write full r) (guarded-emitted t)
-  where
-    at : (a : Answer (List ℕ)) → (_>>=_ {B = List ℕ × List ℕ} a (λ o. accepted (o, final t)) >>= λ x. accepted (x .0)) ≡ a
-    at (refused k) = unfold _>>=_ in refl
-    at (accepted o) = unfold _>>=_ in refl

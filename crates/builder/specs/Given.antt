@@ -2,6 +2,7 @@
 use mathlib.Core.Path.{_≡_, refl, sym, ap, _∙_}
 use mathlib.Core.List.{List, []}
 use mathlib.Core.Bool.{Bool, true, false}
+use mathlib.Core.Option.{Option, none, some}
 use Prim.Native.Nat.{ℕ, _≤_, _<_, min}
 use native.Mathlib.Omega.{arith}
 use lib.Dec.{leb}
@@ -47,6 +48,28 @@ fine-given {bundle} {folder} {text} {sheet} {L} f =
     let x = true-some (bundleOf bundle) (f .bundles) in
     let s = f .sheets in
     rw (x .1, s .of, f .folders, f .texts, sym (s .bytes), le-leb (length sheet) L (f .fits), entries-some bundle (x .0) (x .1)) refl
+
+-- What follows the arguments.
+pub given-then : (bundle folder text sheet : List ℕ) (L : ℕ) (k : List Entry × Records → Answer (List ℕ × Records)) →
+    (orRefuse 2 (bundleOf bundle) >>= λ es. orRefuse 3 (sheetOf sheet) >>= λ s. check 4 (isFolder folder) >> (check 6 (all ascii text) >> (check 9 (leb (sheetLength s) L) >> k (es, s)))) ≡ (given bundle folder text sheet L >>= k)
+unfolding given orRefuse check _>>=_ _>>_
+given-then bundle folder text sheet L k = at (bundleOf bundle) (sheetOf sheet) (isFolder folder) (all ascii text)
+  where
+    both : List Entry → Records → Answer (List Entry × Records)
+    both es s = accepted (es, s)
+
+    go : (es : List Entry) (s : Records) (c : Bool) → (check 9 c >> k (es, s)) ≡ (check 9 c >> both es s >>= k)
+    go es s true = refl
+    go es s false = refl
+
+    at : (x : Option (List Entry)) (y : Option Records) (f a : Bool) →
+        (orRefuse 2 x >>= λ es. orRefuse 3 y >>= λ s. check 4 f >> (check 6 a >> (check 9 (leb (sheetLength s) L) >> k (es, s))))
+        ≡ (orRefuse 2 x >>= (λ es. orRefuse 3 y >>= λ s. check 4 f >> (check 6 a >> (check 9 (leb (sheetLength s) L) >> both es s))) >>= k)
+    at none y f a = refl
+    at (some es) none f a = refl
+    at (some es) (some s) false a = refl
+    at (some es) (some s) true false = refl
+    at (some es) (some s) true true = go es s (leb (sheetLength s) L)
 
 module _ {bundle folder text sheet : List ℕ} {L : ℕ} where
   judged : {k : ℕ} → (k ≡ 0 → ⊥) → given bundle folder text sheet L ≡ refused k → Judges bundle folder text sheet L k

@@ -5,3 +5,4 @@ pub mod Includes
 pub mod Given
 pub mod Expansion
 pub mod Definitions
+pub mod Pass

@@ -10,6 +10,7 @@ ghost use Rattle.builder.specs.Text.{TextAt, Gave, Refuses, RefusesBoth}
 
 pub mod define;
 mod given;
+pub mod pass;
 
 // A lookup's answer. Kind: 0 missing, 1 none, 2 text, 3 dictionary.
 #[repr(C)]

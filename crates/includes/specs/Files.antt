@@ -76,7 +76,7 @@ emits-line {full} {room} {e} {b} {p} {c} {y} {n} {q} {d} {z} {k} {r} h s t = at 
 pub same-put : {room : ℕ} {b : List ℕ} {p : ℕ} {v w c : List ℕ} {q : ℕ} → v ≡ w → Put room b p v c q → Put room b p w c q
 same-put {room} {b} {p} {v} {w} {c} {q} e s = subst (λ z. Put room b p z c q) e s
 
-ends-last : (c : List ℕ) → 0 < length c → endsInNewline c ≡ eqb (getD c (length c - 1) 0) 10
+pub ends-last : (c : List ℕ) → 0 < length c → endsInNewline c ≡ eqb (getD c (length c - 1) 0) 10
 unfolding endsInNewline
 ends-last [] h = absurd (omega arith)
 ends-last (x ∷ []) h = refl

@@ -1,72 +1,15 @@
 // Replays fixed vectors: calls with the answers that they must have (crates/lines/README.md has their form, and says how they were
 // made). It prints each case that differs, and how many there were.
-use libc::STDOUT_FILENO;
+use cases::Tally;
+use cases::behind;
+use cases::differs;
+use cases::field;
+use cases::holds;
+use cases::short_at;
 ghost use mathlib.Core.Path.{_≡_};
 ghost use Prim.Native.Nat.{_+_, _≤_, _<_};
 ghost use lib.ListN.{length};
 ghost use Rattle.io.specs.Counts.{Counts};
-
-// A byte as a number.
-fn wide(x: u8) -> usize
-    ensures { λ r. ⌜ r < 256 ⌝ }
-{
-    x as usize
-}
-
-// The number in 16 bits at a place, low byte first.
-fn short_at(bytes: &[u8], at: usize) -> usize
-    requires { ⌜ at + 2 ≤ length (now bytes) ⌝ }
-    ensures { λ r. ⌜ r < 65536 ⌝ }
-{
-    wide(bytes[at]) + 256 * wide(bytes[at + 1])
-}
-
-// Where the bytes of a field stand.
-struct Part {
-    pub from: usize,
-    pub to: usize,
-}
-
-// The field at a place: a 16-bit length, then its bytes. An empty field at the end where it is cut short.
-fn part_at(case: &[u8], at: usize) -> Part
-    requires { ⌜ at ≤ length (now case) ⌝ }
-    ensures { λ r. ⌜ (r .from ≤ r .to) × (r .to ≤ length (now (case .entry))) ⌝ }
-{
-    let n = case.len();
-    if n - at < 2 {
-        return Part { from: n, to: n };
-    }
-    let size = short_at(case, at);
-    if n - at - 2 < size {
-        return Part { from: n, to: n };
-    }
-    Part {
-        from: at + 2,
-        to: at + 2 + size,
-    }
-}
-
-// The place behind the first `count` fields of a case.
-fn behind(case: &[u8], count: usize) -> usize
-    ensures { λ r. ⌜ r ≤ length (now (case .entry)) ⌝ }
-{
-    let mut at: usize = 0;
-    let mut i: usize = 0;
-    while i < count {
-        let part = part_at(case, at);
-        at = part.to;
-        i += 1;
-    }
-    at
-}
-
-// A field of a case; the first is 0.
-fn field(case: &[u8], k: usize) -> &[u8] {
-    let part = part_at(case, behind(case, k));
-    let from = part.from;
-    let to = part.to;
-    &case[from..to]
-}
 
 // A buffer for a call: filled, so that a byte that the call leaves as it was is seen.
 fn buffer() -> [u8; 4096]
@@ -87,22 +30,6 @@ fn room(answer: &[u8], out: &[u8]) -> usize
         return 0;
     }
     size
-}
-
-// Does a buffer hold the text, and zero behind it?
-fn holds(out: &[u8], text: &[u8]) -> bool {
-    let mut i: usize = 0;
-    while i < out.len() {
-        let mut x: u8 = 0;
-        if i < text.len() {
-            x = text[i];
-        }
-        if out[i] != x {
-            return false;
-        }
-        i += 1;
-    }
-    text.len() <= out.len()
 }
 
 // Is a text's answer the one given: number, the buffer's length in 16 bits, the text?
@@ -211,19 +138,6 @@ fn replay_case(tag: u8, case: &[u8]) -> Done
     }
 }
 
-// Prints the number of a case that differs.
-fn differs(case: u64) {
-    io::write_all(STDOUT_FILENO, b"differs: case ");
-    io::print_decimal(STDOUT_FILENO, case);
-    io::write_all(STDOUT_FILENO, b"\n");
-}
-
-// What was replayed.
-struct Tally {
-    pub cases: u64,
-    pub differing: u64,
-}
-
 // Every case of the input.
 fn replay(input: &[u8]) -> Tally {
     let mut at: usize = 0;
@@ -256,9 +170,5 @@ fn input_buffer() -> [u8; 131072]
 fn main() {
     let mut input = input_buffer();
     let n = io::read_full(0, &mut input);
-    let tally = replay(&input[..n]);
-    io::print_decimal(STDOUT_FILENO, tally.cases);
-    io::write_all(STDOUT_FILENO, b" cases, ");
-    io::print_decimal(STDOUT_FILENO, tally.differing);
-    io::write_all(STDOUT_FILENO, b" differ\n");
+    cases::report(replay(&input[..n]));
 }

@@ -1,23 +1,29 @@
 -- What every answer of a public call says (01, sections 6 and 8).
-use mathlib.Core.Path.{_≡_, refl}
+use mathlib.Core.Path.{_≡_, refl, sym, ap, _∙_}
 use mathlib.Core.Logic.{_≢_, _↔_}
 use mathlib.Core.List.{List}
 use mathlib.Core.Bool.{Bool, true, false, _||_}
 use mathlib.Core.Option.{none, some}
-use Prim.Native.Nat.{ℕ, _≤_}
+use Prim.Native.Nat.{ℕ, _+_, _≤_, _<_}
+use native.Mathlib.Omega.{arith}
+use native.Mathlib.Decide.{decLe}
 use lib.Dec.{leb, eqb}
-use lib.ListN.{length, take}
-use Rattle.rules.specs.Answer.{isRefusal}
+use lib.ListN.{length, take, drop}
+use lib.Seq.{take-all, length-take-le}
+use borrow.Author.Tests.{lt-leb}
+use Rattle.rules.specs.Answer.{refused, accepted, isRefusal, _>>_, check}
 use Rattle.rules.specs.Reader.{all}
 use Rattle.rules.specs.Run.{fail, unrefused}
 use Rattle.rules.specs.Bytes.{ascii, isFolder}
 use Rattle.rules.specs.Bundle.{Entry, bundleOf}
 use Rattle.rules.specs.Calls.{limit, zeros, Holds, resolveResult, resolveOf, kindAnswer, Kind, resolveStringResult, resolveStringOf, outputAnswer, Output, findFileOf, foundAnswer, Found, resolveIncludesResult, resolveIncludesOf, preprocessTypstResult, preprocessTypstOf, expandedAnswer, Expanded, parseDefinitionsResult, parseDefinitionsOf, definedAnswer, Defined, passResult, passOf, passedAnswer, Passed, closedOf}
-use Rattle.rules.specs.Files.{View}
+use Rattle.rules.specs.Files.{View, view, fetch}
 use Rattle.rules.specs.Sheet.{Records, sheetLength, sheetOf}
 use Rattle.rules.specs.Expansion.{expansionStep}
+use Rattle.rules.specs.Manual.{built, shown, manual}
 use Rattle.rules.specs.Parts.{Setting, pass, isClosed, sheetLeft}
 use Rattle.rules.specs.Laws.Calls.{refused-form, number-form, parseDefinitions-holds, parseDefinitions-work, parseDefinitions-sheet, resolve-numbered, resolveString-numbered, resolveIncludes-numbered, preprocessTypst-numbered, parseDefinitions-numbered, resolveString-holds, resolveIncludes-holds, preprocessTypst-holds, pass-holds, pass-middle, pass-closed, find-refused, pass-sheet}
+use Rattle.rules.specs.Laws.Found.{found-there, found-inside}
 use Rattle.rules.specs.Laws.Parts.{result-numbered}
 use Rattle.rules.specs.Laws.Order.{order}
 use Rattle.rules.specs.Laws.Once.{refused-alone, expansion-once}
@@ -58,6 +64,11 @@ pass-refused bundle folder text sheet m n l h =
 pub find-file-refused : (bundle path : List ℕ) → let r = findFileOf bundle path in r .number ≢ 0 → r ≡ record { number = r .number; kind = 0; start = 0; len = 0 }
 unfolding findFileOf
 find-file-refused bundle path h = find-refused bundle path h
+
+-- FOUND: a file that `find_file` finds is what opening it gives, and lies in the bundle.
+pub find-file-there : (bundle path : List ℕ) (es : List Entry) → bundleOf bundle ≡ some es → let r = findFileOf bundle path in r .number ≡ 0 → r .kind ≡ 2 →
+    (fetch (view es) path ≡ accepted (take (r .len) (drop (r .start) bundle))) × (r .start + r .len ≤ length bundle)
+find-file-there bundle path es h e k = (found-there bundle path es h e k, found-inside bundle path)
 
 -- WRITTEN: each buffer holds what the answer's length says, and zero behind it; refused, the length is zero.
 pub resolve-string-written : (sheet path : List ℕ) (n : ℕ) → let r = resolveStringOf sheet path n in Holds n (r .len) (r .out)
@@ -121,3 +132,15 @@ arguments-first k sheet text =
 -- READ WHOLE: a step of the expansion that is refused is nothing but the refusal; no byte of it comes first.
 pub read-whole : (v : View) (s : Records) (text : List ℕ) → unrefused (expansionStep v s text .0 .emit) ≡ false → (k : ℕ) × (expansionStep v s text .0 .emit ≡ fail k)
 read-whole v s text h = refused-alone (expansionStep v s text .0 .emit) (expansion-once v s text) h
+
+-- MANUAL. What it writes is decided by the first 16,385 bytes of its input, and it reads no more.
+pub manual-cut : (input : List ℕ) → manual (take 16385 input) ≡ manual input
+unfolding manual built check _>>_
+manual-cut input = go (decLe (length input) 16385)
+  where
+    long : (b : List ℕ) → 16384 < length b → manual b ≡ shown (refused 2)
+    long b h = rw (lt-leb (length b) 16384 h) refl
+
+    go : Dec (length input ≤ 16385) → manual (take 16385 input) ≡ manual input
+    go (yes h) = ap manual (take-all 16385 input h)
+    go (no h) = long (take 16385 input) (omega (arith, length-take-le 16385 input (omega arith))) ∙ sym (long input (omega arith))

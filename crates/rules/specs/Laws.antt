@@ -21,3 +21,4 @@ pub mod Values
 pub mod Definitions
 pub mod Parts
 pub mod Calls
+pub mod Found

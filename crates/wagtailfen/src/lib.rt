@@ -2,7 +2,7 @@
 // returned by value.
 ghost use mathlib.Core.Path.{_≡_};
 ghost use lib.ListN.{length};
-ghost use Rattle.rules.specs.Calls.{resolveOf, resolveStringOf, resolveIncludesOf, preprocessTypstOf, findFileOf};
+ghost use Rattle.rules.specs.Calls.{resolveOf, resolveStringOf, resolveIncludesOf, preprocessTypstOf, findFileOf, passOf};
 
 #[no_mangle]
 pub extern "C" fn wf_resolve(sheet: &[u8], path: &[u8]) -> builder::Resolved
@@ -48,4 +48,19 @@ pub extern "C" fn wf_find_file(bundle: &[u8], path: &[u8]) -> builder::FoundFile
     ensures { λ r. ⌜ findFileOf (now (bundle .entry)) (now (path .entry)) ≡ record { number = r .number; kind = r .kind; start = r .start; len = r .len } ⌝ }
 {
     builder::find_file(bundle, path)
+}
+
+#[no_mangle]
+pub extern "C" fn wf_pass(
+    bundle: &[u8],
+    folder: &[u8],
+    text: &[u8],
+    sheet: &[u8],
+    middle: &mut [u8],
+    out: &mut [u8],
+    left: &mut [u8],
+) -> builder::pass::Passed
+    ensures { λ r. ⌜ passOf (now (bundle .entry)) (now (folder .entry)) (now (text .entry)) (now (sheet .entry)) (length (now (middle .entry))) (length (now (out .entry))) (length (now (left .entry))) ≡ record { number = r .number; len = r .len; sheetLen = r .sheet; closed = r .closed; middle = now (middle .exit); out = now (out .exit); left = now (left .exit) } ⌝ }
+{
+    builder::pass::pass(bundle, folder, text, sheet, middle, out, left)
 }

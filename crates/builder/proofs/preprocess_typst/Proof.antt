@@ -41,7 +41,7 @@ store-requires c κs = search needs
 expand-requires : tie.Need-expand-requires
 expand-requires c κs =
     let f = rw (c .before .before .before .before .before .before .before .before .before .sheet-limit .ensures) at (c .before .before .before .before .before .before .before .refusal .ensures .yes (search needs)) in
-    (f .bundles, f .texts, omega arith, rw (c .before .before .before .before .store .ensures, c .before .before .before .before .before .before .before .before .before .sheet-limit .ensures) (sheet-keeps _ f))
+    (f .bundles, f .texts, omega arith, rw (c .before .before .before .before .store .ensures, c .before .before .before .before .before .before .before .before .before .sheet-limit .ensures) (sheet-keeps _ (f .sheets) (f .fits)))
 
 no-expansion-requires-2 : tie.Need-no-expansion-requires-2
 no-expansion-requires-2 c κs = search needs

@@ -63,7 +63,7 @@ same-length-4 : tie.Need-same-length-4
 same-length-4 c = search needs
 
 returns-4 : tie.Need-returns-4
-returns-4 c = refused-text _ _ _ _ _ _ _ (includes-refused _ _ _ _ (sym (c .before .before .before .before .before .before .before .before .before .before .before .before .before .before .before .check .ensures) ∙ not-false _ (c .before .before .before .before .before .before .before .before .before .before .before .before .before .before .if1 .left)) (sym (c .before .before .before .before .before .before .before .before .before .before .before .before .before .is-folder .ensures) ∙ not-false _ (c .before .before .before .before .before .before .before .before .before .before .before .before .if2 .left)) (sym (c .before .before .before .before .before .before .before .before .before .before .before .is-ascii .ensures) ∙ not-false _ (c .before .before .before .before .before .before .before .before .before .before .if3 .left)) (c .before .before .before .before .before .before .before .before .resolve .ensures) (not-true _ (c .before .before .before .before .if4 .taken))) (sym (c .before .before .before .before .before .before .before .before .resolve .ensures .emits .size)) (c .before .before .no-text4 .ensures)
+returns-4 c = refused-text _ _ _ _ _ _ _ (includes-refused _ _ _ (sym (c .before .before .before .before .before .before .before .before .before .before .before .before .before .before .before .check .ensures) ∙ not-false _ (c .before .before .before .before .before .before .before .before .before .before .before .before .before .before .if1 .left)) (sym (c .before .before .before .before .before .before .before .before .before .before .before .before .before .is-folder .ensures) ∙ not-false _ (c .before .before .before .before .before .before .before .before .before .before .before .before .if2 .left)) (sym (c .before .before .before .before .before .before .before .before .before .before .before .is-ascii .ensures) ∙ not-false _ (c .before .before .before .before .before .before .before .before .before .before .if3 .left)) (c .before .before .before .before .before .before .before .before .resolve .ensures) (not-true _ (c .before .before .before .before .if4 .taken))) (sym (c .before .before .before .before .before .before .before .before .resolve .ensures .emits .size)) (c .before .before .no-text4 .ensures)
 
 clear-from-requires : tie.Need-clear-from-requires
 clear-from-requires c κs = omega (arith, c .before .before .before .before .before .resolve .ensures .emits .goes (not-false _ (c .before .if4 .left)) .fits, c .before .before .before .before .before .resolve .ensures .emits .size)
@@ -72,7 +72,7 @@ same-length-5 : tie.Need-same-length-5
 same-length-5 c = search needs
 
 returns-5 : tie.Need-returns-5
-returns-5 c = includes-done _ _ _ _ (sym (c .before .before .before .before .before .before .before .before .before .before .before .before .before .before .before .check .ensures) ∙ not-false _ (c .before .before .before .before .before .before .before .before .before .before .before .before .before .before .if1 .left)) (sym (c .before .before .before .before .before .before .before .before .before .before .before .before .before .is-folder .ensures) ∙ not-false _ (c .before .before .before .before .before .before .before .before .before .before .before .before .if2 .left)) (sym (c .before .before .before .before .before .before .before .before .before .before .before .is-ascii .ensures) ∙ not-false _ (c .before .before .before .before .before .before .before .before .before .before .if3 .left)) (c .before .before .before .before .before .before .before .before .resolve .ensures) (not-false _ (c .before .before .before .before .if4 .left)) refl (c .before .before .clear-from .ensures)
+returns-5 c = includes-done _ _ _ (sym (c .before .before .before .before .before .before .before .before .before .before .before .before .before .before .before .check .ensures) ∙ not-false _ (c .before .before .before .before .before .before .before .before .before .before .before .before .before .before .if1 .left)) (sym (c .before .before .before .before .before .before .before .before .before .before .before .before .before .is-folder .ensures) ∙ not-false _ (c .before .before .before .before .before .before .before .before .before .before .before .before .if2 .left)) (sym (c .before .before .before .before .before .before .before .before .before .before .before .is-ascii .ensures) ∙ not-false _ (c .before .before .before .before .before .before .before .before .before .before .if3 .left)) (c .before .before .before .before .before .before .before .before .resolve .ensures) (not-false _ (c .before .before .before .before .if4 .left)) (c .before .before .clear-from .ensures)
 
 pub resolve-includes-spec : {M : Type 1} → statement M
 resolve-includes-spec =

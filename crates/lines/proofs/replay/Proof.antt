@@ -3,7 +3,7 @@ use Rattle.lines.proofs.replay.Statement.{statement}
 use Rattle.lines.proofs.replay.Tie as tie
 use Rattle.lines.proofs.replay.Reads as reads
 use Rattle.lines.proofs.replay.Lts as lts
-use Rattle.lines.proofs.differs.Reads as differs-reads
+use Rattle.cases.proofs.differs.Reads as differs-reads
 use Rattle.lines.proofs.replay_case.Reads as replay-case-reads
 use Rattle.std.proofs.num.wrapping_add_u64.Reads as wrapping-add-u64-reads
 use Prim.Native.Nat.{_≤_, _-_}

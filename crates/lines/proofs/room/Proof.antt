@@ -3,7 +3,7 @@ use Rattle.lines.proofs.room.Statement.{statement}
 use Rattle.lines.proofs.room.Tie as tie
 use Rattle.lines.proofs.room.Reads as reads
 use Rattle.lines.proofs.room.Lts as lts
-use Rattle.lines.proofs.short_at.Reads as short-at-reads
+use Rattle.cases.proofs.short_at.Reads as short-at-reads
 use mathlib.Core.Path.{sym}
 use lib.Seq.{length-take-le}
 

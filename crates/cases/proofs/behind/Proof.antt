@@ -1,9 +1,9 @@
 use borrow.Author.Needs.{needs}
-use Rattle.lines.proofs.behind.Statement.{statement}
-use Rattle.lines.proofs.behind.Tie as tie
-use Rattle.lines.proofs.behind.Reads as reads
-use Rattle.lines.proofs.behind.Lts as lts
-use Rattle.lines.proofs.part_at.Reads as part-at-reads
+use Rattle.cases.proofs.behind.Statement.{statement}
+use Rattle.cases.proofs.behind.Tie as tie
+use Rattle.cases.proofs.behind.Reads as reads
+use Rattle.cases.proofs.behind.Lts as lts
+use Rattle.cases.proofs.part_at.Reads as part-at-reads
 use Prim.Native.Nat.{_≤_, _-_}
 use lib.ListN.{length}
 

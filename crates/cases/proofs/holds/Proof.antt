@@ -1,8 +1,8 @@
 use borrow.Author.Needs.{needs}
-use Rattle.lines.proofs.holds.Statement.{statement}
-use Rattle.lines.proofs.holds.Tie as tie
-use Rattle.lines.proofs.holds.Reads as reads
-use Rattle.lines.proofs.holds.Lts as lts
+use Rattle.cases.proofs.holds.Statement.{statement}
+use Rattle.cases.proofs.holds.Tie as tie
+use Rattle.cases.proofs.holds.Reads as reads
+use Rattle.cases.proofs.holds.Lts as lts
 use Prim.Native.Nat.{_≤_, _-_}
 use lib.ListN.{length}
 
