@@ -42,6 +42,11 @@ unfolding encode join
 encode-join end r = refl
 encode-join (rec n v q) r = rw (encode-join q r) (simp append-assoc)
 
+pub join-one : (f : Records) (n : List ℕ) (v : Value) (r : Records) → join (join f (rec n v end)) r ≡ join f (rec n v r)
+unfolding join
+join-one end n v r = refl
+join-one (rec m w f) n v r = ap (rec m w) (join-one f n v r)
+
 -- WHAT IS WRITTEN IS READ BACK.
 shape-back : (v : Value) (b : List ℕ) → shape (valueMask v / 2) (valueBytes v ++ b) ≡ some (lead v, encode (inner v) ++ b)
 unfolding shape valueMask valueBytes fieldMask fieldBytes lead inner encode pure bind _>>=_

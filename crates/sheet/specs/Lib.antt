@@ -6,6 +6,7 @@ pub mod Find
 pub mod Look
 pub mod Check
 pub mod Place
+pub mod Mark
 pub mod Moves
 pub mod Write
 pub mod Use

@@ -62,6 +62,18 @@ less-same (x ∷ xs) (y ∷ ys) h k =
     let i : xs ≡ ys = less-same xs ys (and-false-r (eqb x y) _ (eqb-true x y e) (or-false-r (ltb x y) _ h)) (and-false-r (eqb y x) _ (eqb-true y x (sym e)) (or-false-r (ltb y x) _ k)) in
     cc
 
+-- A name before another one does not stand behind it.
+pub less-asym : (n m : List ℕ) → less n m ≡ true → less m n ≡ false
+less-asym n m h = not-true (less m n) (λ g. true≢false (sym (less-trans n m n h g) ∙ less-irrefl n))
+
+-- A name before a second one, which does not stand behind a third one, stands before the third one.
+pub less-up : (n m k : List ℕ) → less n m ≡ true → less k m ≡ false → less n k ≡ true
+less-up n m k h g = less-up-at (less m k) refl
+  where
+    less-up-at : (c : Bool) → less m k ≡ c → less n k ≡ true
+    less-up-at true e = less-trans n m k h e
+    less-up-at false e = rw (less-same k m g e) h
+
 -- EQUAL NAMES.
 prefix-refl : (n : List ℕ) → prefix n n ≡ true
 unfolding prefix

@@ -1,0 +1,127 @@
+-- A place of a sheet from which a name may be searched for.
+use mathlib.Core.Path.{_≡_, refl, sym, ap, _∙_}
+use mathlib.Core.Bool.{Bool, true, false}
+use mathlib.Core.List.{List, [], _∷_, _++_, append-nil}
+use mathlib.Core.Option.{Option, some}
+use Prim.Native.Nat.{ℕ, zero, suc, _+_, _≤_, _<_}
+use native.Mathlib.Omega.{arith}
+use lib.Dec.{eqb}
+use lib.ListN.{length, take, drop, length-append, drop-of-length-le}
+use lib.Seq.{take-append-seam, drop-append-seam}
+use borrow.Author.Tests.{ne-eqb}
+use Rattle.rules.specs.Bytes.{word, less}
+use Rattle.rules.specs.Sheet.{Value, Records, end, rec, encode, goodRecords, decode, set, before}
+use Rattle.rules.specs.Laws.Sheet.{less-trans, less-asym, less-up, good-parts, decode-encode}
+use Rattle.sheet.specs.Parts.{Part, slice, part-slice, part-of}
+use Rattle.sheet.specs.Items.{At, join, encode-join}
+use Rattle.sheet.specs.Order.{orderOf, order-less}
+use Rattle.sheet.specs.Find.{IsSheet}
+use Rattle.sheet.specs.Place.{HasRecords, Tail, Between, Placing, between-start, set-past}
+
+-- Names that ascend: the records are good for some bytes and some levels.
+pub record Ascends (r : Records) : Type 0 where
+  pub p : ℕ → Bool
+  pub l : ℕ
+  pub good : goodRecords r p l ≡ true
+
+-- A search among the records r, whose bytes are s, may start at i, or at 0. At 0 nothing is asked of the names.
+pub record Marked (s : List ℕ) (r : Records) (i : ℕ) : Type 0 where
+  pub bytes : s ≡ encode r
+  pub between : Between r i
+  pub order : (i ≡ 0 → ⊥) → Ascends r
+
+pub record HasMark (s : List ℕ) (i : ℕ) : Type 0 where
+  pub r : Records
+  pub marked : Marked s r i
+
+-- FOR CALLERS. s is a sheet, and at byte i a record begins, or it ends.
+pub record Mark (s : List ℕ) (i : ℕ) : Type 0 where
+  pub sheet : IsSheet s
+  pub between : Between (sheet .r) i
+
+-- 0 is always right.
+pub mark-start : {s : List ℕ} → IsSheet s → Mark s 0
+mark-start h = record { sheet = h; between = between-start (h .r) }
+
+pub marked-start : {s : List ℕ} {r : Records} → s ≡ encode r → Marked s r 0
+marked-start {r = r} e = record { bytes = e; between = between-start r; order = λ z. absurd (z refl) }
+
+pub has-start : {s : List ℕ} → HasRecords s → HasMark s 0
+has-start h = record { r = h .r; marked = marked-start (h .bytes) }
+
+-- A sheet's bytes tell its records.
+some-same : (r q : Records) → some r ≡ some q → r ≡ q
+some-same r q h = cc
+
+pub mark-of : {s : List ℕ} {i : ℕ} → Mark s i → {r : Records} → s ≡ encode r → goodRecords r word 6 ≡ true → Marked s r i
+mark-of {s} {i} k {r} e g =
+    let h = k .sheet in
+    let q : h .r ≡ r = some-same (h .r) r (sym (decode-encode (h .r) word (h .good)) ∙ ap decode (sym (h .bytes) ∙ e) ∙ decode-encode r word g) in
+    record { bytes = e; between = rw q at (k .between); order = λ z. record { p = word; l = 6; good = g } }
+
+pub has-mark : {s : List ℕ} {i : ℕ} → Mark s i → HasMark s i
+has-mark k = record { r = k .sheet .r; marked = mark-of k (k .sheet .bytes) (k .sheet .good) }
+
+-- THE START OF A SEARCH. The record at i.
+pub record There (s : List ℕ) (r : Records) (i : ℕ) : Type 0 where
+  pub m : List ℕ
+  pub w : Value
+  pub q : Records
+  pub tail : Tail r i (rec m w q)
+  pub first : take i s ≡ encode (tail .front)
+  pub part : Part s i (encode (rec m w q)) (length s)
+
+pub there : {s : List ℕ} {r : Records} {i : ℕ} → Marked s r i → i < length s → There s r i
+unfolding encode
+there {s} {r} {i} k h = go (k .between .left) (k .between .tail)
+  where
+    whole : {q : Records} (t : Tail r i q) → s ≡ encode (t .front) ++ encode q
+    whole {q} t = k .bytes ∙ ap encode (t .whole) ∙ encode-join (t .front) q
+
+    go : (q : Records) → Tail r i q → There s r i
+    go end t = absurd (omega (arith, ap length (whole t), length-append (encode (t .front)) [], t .long))
+    go (rec m w q) t =
+        let e = whole t in
+        let d : drop i s ≡ encode (rec m w q) = rw (← (t .long), e) (drop-append-seam (encode (t .front)) (encode (rec m w q))) in
+        record {
+          m = m;
+          w = w;
+          q = q;
+          tail = t;
+          first = rw (← (t .long), e) (take-append-seam (encode (t .front)) (encode (rec m w q)));
+          part = record { ends = sym (ap length e ∙ length-append (encode (t .front)) (encode (rec m w q)) ∙ ap (λ z. z + length (encode (rec m w q))) (t .long)); inside = omega arith; bytes = d ∙ rw (drop-of-length-le s {i = length s} (omega arith)) (sym (append-nil (encode (rec m w q)))) };
+        }
+
+pub there-at : {s : List ℕ} {r : Records} {i : ℕ} → There s r i → At s i
+there-at {s} k = record { n = k .m; v = k .w; r = k .q; j = length s; part = k .part }
+
+-- Of good records the first name stands before each later one.
+first-less : (n : List ℕ) (u : Value) (f : Records) (m : List ℕ) (w : Value) (q : Records) (p : ℕ → Bool) (l : ℕ) → goodRecords (rec n u (join f (rec m w q))) p l ≡ true → less n m ≡ true
+unfolding join before
+first-less n u end m w q p l h = good-parts n u (rec m w q) p l h .order
+first-less n u (rec k x f) m w q p l h =
+    let g = good-parts n u (join (rec k x f) (rec m w q)) p l h in
+    less-trans n k m (g .order) (first-less k x f m w q p l (g .later))
+
+-- A name that does not stand before that of a later record is bound there or behind it.
+pub set-later : (f : Records) (m : List ℕ) (w : Value) (q : Records) (p : ℕ → Bool) (l : ℕ) (name : List ℕ) (v : Value) → goodRecords (join f (rec m w q)) p l ≡ true → less name m ≡ false →
+    set (join f (rec m w q)) name v ≡ join f (set (rec m w q) name v)
+unfolding join
+set-later end m w q p l name v h g = refl
+set-later (rec n u f) m w q p l name v h g =
+    let o : less n name ≡ true = less-up n m name (first-less n u f m w q p l h) g in
+    set-past name n v u (join f (rec m w q)) (less-asym n name o) o ∙ ap (rec n u) (set-later f m w q p l name v (good-parts n u (join f (rec m w q)) p l h .later) g)
+
+module _ {s : List ℕ} {r : Records} {name : List ℕ} {i : ℕ} (o : Ascends r) (k : There s r i) {a b c : ℕ} (p : Part s a (k .m) b) (h : c ≡ orderOf (slice a b s) name) where
+  pub place-there : (c ≡ 2 → ⊥) → Placing s r name i
+  place-there z =
+      let e : orderOf (k .m) name ≡ c = sym (h ∙ ap (λ y. orderOf y name) (part-slice p)) in
+      let g : less name (k .m) ≡ false = order-less (k .m) name .1 ∙ ap (λ y. eqb y 2) e ∙ ne-eqb c 2 z in
+      let t = k .tail in
+      let sets : (v : Value) → set r name v ≡ join (t .front) (set (rec (k .m) (k .w) (k .q)) name v) = λ v. ap (λ y. set y name v) (t .whole) ∙ set-later (t .front) (k .m) (k .w) (k .q) (o .p) (o .l) name v (rw (t .whole) at (o .good)) g in
+      record {
+        left = rec (k .m) (k .w) (k .q);
+        part = k .part;
+        is = λ v. ap encode (sets v) ∙ encode-join (t .front) (set (rec (k .m) (k .w) (k .q)) name v) ∙ rw (← (k .first)) refl;
+        tail = λ v. record { front = t .front; whole = sets v; long = t .long };
+      }
