@@ -23,9 +23,11 @@ use Rattle.sheet.specs.Parts.{Part, slice, part-slice, length-slice}
 use Rattle.sheet.specs.Moves.{slice-take, slice-above, take-stored}
 use Rattle.sheet.specs.Order.{made, asked, asked-length, asked-getD}
 use Rattle.sheet.specs.Find.{Gives}
-use Rattle.sheet.specs.Place.{HasRecords, Placed, one, one-rec}
+use Rattle.sheet.specs.Place.{HasRecords, Between, between-start, Placed, one, one-rec}
+use Rattle.sheet.specs.Mark.{Marked, HasMark, marked-start, has-start}
 use Rattle.sheet.specs.declared.bind.Bound.{Bound}
 use Rattle.sheet.specs.declared.bind.Bound.the-variants.{Over, Length}
+use Rattle.sheet.specs.declared.bind.Put.{Put}
 use Rattle.sheet.specs.declared.bind.Room.{Room}
 use Rattle.sheet.specs.declared.bind.Source.{Source}
 use Rattle.sheet.specs.declared.lookup.Found.{Found}
@@ -62,18 +64,18 @@ pub record IsSource (v : Value) (bit size : ℕ) (own : List ℕ) : Type 0 where
   pub bytes : valueBytes v ≡ number bit size ++ own
   pub small : size ≤ length own
 
--- A place for a record of the name with so many bytes of its own, in a sheet that may have l bytes.
-pub record Fitting (s : List ℕ) (l : ℕ) (name : List ℕ) (bit len : ℕ) (p : Room) : Type 0 where
-  pub placed : (r : Records) → s ≡ encode r → Placed s r name (p .from) (p .to)
+-- A place for a record of the name with so many bytes of its own, in a sheet that may have l bytes, searched for from `last` on.
+pub record Fitting (s : List ℕ) (last l : ℕ) (name : List ℕ) (bit len : ℕ) (p : Room) : Type 0 where
+  pub placed : (r : Records) → Marked s r last → Placed s r name (p .from) (p .to)
   pub head : p .head ≡ openLen (length name) bit
   pub total : p .total ≡ p .from + p .head + len + (length s - p .to)
   pub fits : p .total ≤ l
   pub short : length name ≤ l
   pub small : len ≤ l
 
-unfoldable pub Plans : List ℕ → ℕ → List ℕ → ℕ → ℕ → Plan → Type 0
-Plans s l name bit len TooLong = (r : Records) (v : Value) (size : ℕ) (own : List ℕ) → s ≡ encode r → IsSource v bit size own → length own ≡ len → l < length (encode (set r name v))
-Plans s l name bit len (Fits p) = Fitting s l name bit len p
+unfoldable pub Plans : List ℕ → ℕ → ℕ → List ℕ → ℕ → ℕ → Plan → Type 0
+Plans s last l name bit len TooLong = (r : Records) (v : Value) (size : ℕ) (own : List ℕ) → Marked s r last → IsSource v bit size own → length own ≡ len → l < length (encode (set r name v))
+Plans s last l name bit len (Fits p) = Fitting s last l name bit len p
 
 -- There is such a value, and a found one.
 pub record HasSource (bit size : ℕ) (own : List ℕ) : Type 0 where
@@ -118,10 +120,19 @@ pub record BindsTo (b : List ℕ) (n limit : ℕ) (name : List ℕ) (v : Value) 
   pub long : length c ≡ length b
   pub leaves : (r : Records) → take n b ≡ encode r → Leaves c limit (encode (set r name v)) o
 
+-- The same for a search from `last` on, and where the record begins.
+pub record BindsAt (b : List ℕ) (n last limit : ℕ) (name : List ℕ) (v : Value) (c : List ℕ) (o : Put) : Type 0 where
+  pub long : length c ≡ length b
+  pub leaves : (r : Records) → Marked (take n b) r last → Leaves c limit (encode (set r name v)) (o .bound)
+  pub between : (r : Records) → Marked (take n b) r last → Between (set r name v) (o .at)
+
 unfoldable pub Binds : List ℕ → ℕ → ℕ → List ℕ → ℕ → ℕ → List ℕ → List ℕ → Bound → Type 0
 Binds b n limit name bit size own c o = (v : Value) → IsSource v bit size own → BindsTo b n limit name v c o
 
 -- LAWS.
+pub binds-start : {b : List ℕ} {n limit : ℕ} {name : List ℕ} {v : Value} {c : List ℕ} {o : Put} → BindsAt b n 0 limit name v c o → BindsTo b n limit name v c (o .bound)
+binds-start w = record { long = w .long; leaves = λ r e. w .leaves r (marked-start e) }
+
 pub wide-zero : (n : ℕ) → n ≡ 0 → wide n ≡ 0
 unfolding wide
 wide-zero n h = rw (eq-eqb n 0 h) refl
@@ -218,20 +229,20 @@ set-size end n v = rw (one-rec n v end, length-append) (omega arith)
 set-size (rec m w r) n v = set-size-at n m v w r (less n m) (less m n) refl refl (set-size r n v)
 
 -- What `find_room` answers.
-pub plans-long : (s : List ℕ) (l : ℕ) (b : Bool) (name : List ℕ) (bit len : ℕ) → (ltb l (length name) || ltb l len) ≡ true → Plans s l (asked b name) bit len TooLong
+pub plans-long : (s : List ℕ) (last l : ℕ) (b : Bool) (name : List ℕ) (bit len : ℕ) → (ltb l (length name) || ltb l len) ≡ true → Plans s last l (asked b name) bit len TooLong
 unfolding Plans
-plans-long s l b name bit len h r v size own e w k =
+plans-long s last l b name bit len h r v size own e w k =
     let z = set-size r (asked b name) v in
     let y : length (one (asked b name) v) ≡ openLen (length name) bit + len = ap length (one-opening (asked b name) v bit size own w) ∙ length-append (opening (asked b name) bit size) own ∙ omega (arith, opening-length (asked b name) bit size, k, ap (λ x. openLen x bit) (asked-length b name)) in
     or-elim (ltb l (length name)) (ltb l len) h (λ g. omega (arith, ltb-true l (length name) g, open-ge (length name) bit)) (λ g. omega (arith, ltb-true l len g))
 
-module _ (s : List ℕ) (l : ℕ) (b : Bool) (name : List ℕ) (bit len : ℕ) {i j h m : ℕ}
-    (p : (r : Records) → s ≡ encode r → Placed s r (asked b name) i j) (e : h ≡ openLen (length name) bit) (f : m ≡ i + h + len + (length s - j)) where
-  pub plans-over : l < m → Plans s l (asked b name) bit len TooLong
+module _ (s : List ℕ) (last l : ℕ) (b : Bool) (name : List ℕ) (bit len : ℕ) {i j h m : ℕ}
+    (p : (r : Records) → Marked s r last → Placed s r (asked b name) i j) (e : h ≡ openLen (length name) bit) (f : m ≡ i + h + len + (length s - j)) where
+  pub plans-over : l < m → Plans s last l (asked b name) bit len TooLong
   unfolding Plans
   plans-over g r v size own q w k = omega (arith, set-length (p r q) v w, ap (λ x. openLen x bit) (asked-length b name))
 
-  pub plans-fits : m ≤ l → (ltb l (length name) || ltb l len) ≡ false → Plans s l (asked b name) bit len (Fits (record { from = i; to = j; head = h; total = m }))
+  pub plans-fits : m ≤ l → (ltb l (length name) || ltb l len) ≡ false → Plans s last l (asked b name) bit len (Fits (record { from = i; to = j; head = h; total = m }))
   unfolding Plans
   plans-fits g z = record {
     placed = p;
@@ -381,12 +392,12 @@ pub record Bounds (n l long bit len : ℕ) (p : Room) : Type 0 where
   pub own : len ≤ l
 
 -- THE END: the opening, the value's own bytes and the tail stand where they should.
-module _ {b : List ℕ} {n l : ℕ} (g : Bindable b n l) {name : List ℕ} {bit len : ℕ} {p : Room} (f : Fitting (take n b) l name bit len p) where
+module _ {b : List ℕ} {n last l : ℕ} (g : Bindable b n l) (mark : HasMark (take n b) last) {name : List ℕ} {bit len : ℕ} {p : Room} (f : Fitting (take n b) last l name bit len p) where
   sheet-long : length (take n b) ≡ n
   sheet-long = length-take-le n b (g .inside)
 
-  spotted : Placed (take n b) (g .sheet .r) name (p .from) (p .to)
-  spotted = f .placed (g .sheet .r) (g .sheet .bytes)
+  spotted : Placed (take n b) (mark .r) name (p .from) (p .to)
+  spotted = f .placed (mark .r) (mark .marked)
 
   pub bounds : Bounds n l (length name) bit len p
   bounds = record {
@@ -405,7 +416,7 @@ module _ {b : List ℕ} {n l : ℕ} (g : Bindable b n l) {name : List ℕ} {bit 
         let z = length-slice (p .to) n b (g .inside) in
         rw (length-append, length-append) (omega (arith, z, opening-length name bit size, f .total, f .head, k, sheet-long))
 
-    pub bound-in : (v : Value) → IsSource v bit size own → (c : List ℕ) → c ≡ sets b (p .from) (opening name bit size ++ (own ++ slice (p .to) n b)) → BindsTo b n l name v c (Length (p .total))
+    pub bound-in : (v : Value) → IsSource v bit size own → (c : List ℕ) → c ≡ sets b (p .from) (opening name bit size ++ (own ++ slice (p .to) n b)) → BindsAt b n last l name v c (record { bound = Length (p .total); at = p .from })
     unfolding Leaves
     bound-in v w c e =
         record {
@@ -419,6 +430,7 @@ module _ {b : List ℕ} {n l : ℕ} (g : Bindable b n l) {name : List ℕ} {bit 
                 omega (arith, set-length d v w, f .total, f .head, k),
                 ap (take (p .total)) e ∙ take-stored b (opening name bit size ++ (own ++ slice (p .to) n b)) (p .from) (p .total) total-is (omega (arith, f .fits, g .room)) ∙ sym x,
               );
+          between = λ r q. f .placed r q .put v;
         }
 
     pub bound-found : {d e : List ℕ} → d ≡ sets b (p .from + p .head) (own ++ slice (p .to) n b) → e ≡ sets d (p .from) (opening name bit size) →
@@ -435,20 +447,20 @@ module _ {b : List ℕ} {n l : ℕ} (g : Bindable b n l) {name : List ℕ} {bit 
         bound-found i z
 
 -- By what `find_room` answers.
-module _ {b : List ℕ} {n l : ℕ} (g : Bindable b n l) (t : Bool) (name : List ℕ) (bit len : ℕ) {q : Plan} (f : Plans (take n b) l (asked t name) bit len q) where
-  pub bound-over : q ≡ TooLong → {size : ℕ} {own : List ℕ} → length own ≡ len → (v : Value) → IsSource v bit size own → BindsTo b n l (asked t name) v b Over
+module _ {b : List ℕ} {n last l : ℕ} (g : Bindable b n l) (mark : HasMark (take n b) last) (t : Bool) (name : List ℕ) (bit len : ℕ) {q : Plan} (f : Plans (take n b) last l (asked t name) bit len q) where
+  pub bound-over : q ≡ TooLong → {size : ℕ} {own : List ℕ} → length own ≡ len → (v : Value) → IsSource v bit size own → BindsAt b n last l (asked t name) v b (record { bound = Over; at = 0 })
   unfolding Plans Leaves
   bound-over e k v w =
-      let z : Plans (take n b) l (asked t name) bit len TooLong = rw e at f in
-      record { long = refl; leaves = λ r h. z r v _ _ h w k }
+      let z : Plans (take n b) last l (asked t name) bit len TooLong = rw e at f in
+      record { long = refl; leaves = λ r h. z r v _ _ h w k; between = λ r h. between-start (set r (asked t name) v) }
 
   module _ {p : Room} (e : q ≡ Fits p) where
-    fit : Fitting (take n b) l (asked t name) bit len p
+    fit : Fitting (take n b) last l (asked t name) bit len p
     unfolding Plans
     fit = rw e at f
 
     pub fit-bounds : Bounds n l (length name) bit len p
-    fit-bounds = rw (asked-length t name) at (bounds g fit)
+    fit-bounds = rw (asked-length t name) at (bounds g mark fit)
 
     pub opens-there : {c : List ℕ} {size : ℕ} → length c ≡ length b → {v : Value} {own : List ℕ} → IsSource v bit size own → length own ≡ len → Opens c (p .from) (length name) bit size
     opens-there h {v} w k =
@@ -461,24 +473,24 @@ module _ {b : List ℕ} {n l : ℕ} (g : Bindable b n l) (t : Bool) (name : List
         }
 
     pub bound-value : (size : ℕ) (own : List ℕ) → length own ≡ len → (v : Value) → IsSource v bit size own → {c d x : List ℕ} →
-        c ≡ sets b (p .from + p .head + len) (slice (p .to) n b) → d ≡ sets c (p .from + p .head) own → x ≡ sets d (p .from) (opening (asked t name) bit size) → BindsTo b n l (asked t name) v x (Length (p .total))
-    bound-value size own k v w {x = x} i j h = bound-in g fit size own k v w x (bound-slice g fit size own k i j h)
+        c ≡ sets b (p .from + p .head + len) (slice (p .to) n b) → d ≡ sets c (p .from + p .head) own → x ≡ sets d (p .from) (opening (asked t name) bit size) → BindsAt b n last l (asked t name) v x (record { bound = Length (p .total); at = p .from })
+    bound-value size own k v w {x = x} i j h = bound-in g mark fit size own k v w x (bound-slice g mark fit size own k i j h)
 
     -- The value's own bytes lie from a to c, behind the limit.
     pub bound-behind : (size a c : ℕ) → l ≤ a → a ≤ c → c ≤ length b → c - a ≡ len → (v : Value) → IsSource v bit size (slice a c b) → {d e x : List ℕ} →
-        d ≡ sets b (p .from + p .head + len) (slice (p .to) n b) → e ≡ sets d (p .from + p .head) (slice a c d) → x ≡ sets e (p .from) (opening (asked t name) bit size) → BindsTo b n l (asked t name) v x (Length (p .total))
+        d ≡ sets b (p .from + p .head + len) (slice (p .to) n b) → e ≡ sets d (p .from + p .head) (slice a c d) → x ≡ sets e (p .from) (opening (asked t name) bit size) → BindsAt b n last l (asked t name) v x (record { bound = Length (p .total); at = p .from })
     bound-behind size a c h o q k v w {d} {e} {x} i j y =
-        let u = bounds g fit in
+        let u = bounds g mark fit in
         let z : slice a c d ≡ slice a c b = ap (slice a c) i ∙ slice-above a c (p .from + p .head + len) (slice (p .to) n b) b (omega (arith, u .sum, length-slice (p .to) n b (g .inside))) in
         bound-value size (slice a c b) (length-slice a c b q ∙ k) v w i (j ∙ ap (sets d (p .from + p .head)) z) y
 
     -- The value's own bytes lie from `from` to `to` of the sheet.
     pub bound-there : (size a c : ℕ) → a ≤ c → c ≤ n → c - a ≡ len → (v : Value) → IsSource v bit size (slice a c (take n b)) → {d x : List ℕ} →
-        d ≡ sets b (p .from + p .head) (slice a c b ++ slice (p .to) n b) → x ≡ sets d (p .from) (opening (asked t name) bit size) → BindsTo b n l (asked t name) v x (Length (p .total))
+        d ≡ sets b (p .from + p .head) (slice a c b ++ slice (p .to) n b) → x ≡ sets d (p .from) (opening (asked t name) bit size) → BindsAt b n last l (asked t name) v x (record { bound = Length (p .total); at = p .from })
     bound-there size a c o i k v w {x = x} y h =
         let s : slice a c (take n b) ≡ slice a c b = slice-take a c n b o i in
         let m : length (slice a c (take n b)) ≡ len = length-slice a c (take n b) (omega (arith, length-take-le n b (g .inside))) ∙ k in
-        bound-in g fit size (slice a c (take n b)) m v w x (bound-found g fit size (slice a c (take n b)) m (y ∙ ap (λ z. sets b (p .from + p .head) (z ++ slice (p .to) n b)) (sym s)) h)
+        bound-in g mark fit size (slice a c (take n b)) m v w x (bound-found g mark fit size (slice a c (take n b)) m (y ∙ ap (λ z. sets b (p .from + p .head) (z ++ slice (p .to) n b)) (sym s)) h)
 
 pub source-length : {b : List ℕ} {n l : ℕ} → Bindable b n l → {v : Value} {o : Source} → Sources (take n b) v o → (o .to ≤ n) × (length (slice (o .from) (o .to) (take n b)) ≡ o .to - o .from)
 source-length {b} {n} g {o = o} s = (omega (arith, s .inside, length-take-le n b (g .inside)), length-slice (o .from) (o .to) (take n b) (s .inside))

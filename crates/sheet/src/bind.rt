@@ -18,14 +18,21 @@ ghost use Rattle.rules.specs.Sheet.{Value, Records, text, nothing, word16Bytes,
 ghost use Rattle.sheet.specs.Parts.{slice};
 ghost use Rattle.sheet.specs.Order.{asked};
 ghost use Rattle.sheet.specs.Find.{Gives};
-ghost use Rattle.sheet.specs.Place.{HasRecords, Placed};
+ghost use Rattle.sheet.specs.Place.{Placing, Placed};
+ghost use Rattle.sheet.specs.Mark.{Marked, HasMark};
 ghost use Rattle.sheet.specs.Moves.{Arranged};
-ghost use Rattle.sheet.specs.Write.{wide, openLen, opening, mapNo, IsBit, HasSource, Opens, Sources, Plans, IsThere, Bindable, Binds, BindsTo};
+ghost use Rattle.sheet.specs.Write.{wide, openLen, opening, mapNo, IsBit, IsSource, HasSource, Opens, Sources, Plans, IsThere, Bindable, Binds, BindsTo, BindsAt};
 
 // What a binding comes to: too long a sheet, or the sheet's new length.
 pub enum Bound {
     Over,
     Length(usize),
+}
+
+// What a binding comes to, and where its record begins; 0 if it is not put.
+pub struct Put {
+    pub bound: Bound,
+    pub at: usize,
 }
 
 // Where a name is bound: in place of the bytes from a place to another.
@@ -34,12 +41,32 @@ pub struct Place {
     pub to: usize,
 }
 
-// Finds the place of a name among the records.
-fn spot(s: &[u8], name: &[u8], reference: bool) -> Place
-    requires { ⌜ HasRecords (now s) ⌝ }
-    ensures { λ p. ⌜ ((r : Records) → now (s .entry) ≡ encode r → Placed (now (s .entry)) r (asked reference (now (name .entry))) (p .from) (p .to)) ⌝ }
+// Where the search for a name starts: at `last`, unless the record there comes behind the name.
+fn start(s: &[u8], last: usize, name: &[u8], reference: bool) -> usize
+    requires { ⌜ HasMark (now s) last ⌝ }
+    ensures { λ i. ⌜ ((r : Records) → Marked (now (s .entry)) r last → Placing (now (s .entry)) r (asked reference (now (name .entry))) i) ⌝ }
 {
-    let mut i: usize = 0;
+    if last == 0 {
+        return 0;
+    }
+    if s.len() <= last {
+        return 0;
+    }
+    let o = item(s, last);
+    let from = o.from;
+    let to = o.to;
+    if order(&s[from..to], name, reference) == 2 {
+        return 0;
+    }
+    last
+}
+
+// Finds the place of a name among the records.
+fn spot(s: &[u8], last: usize, name: &[u8], reference: bool) -> Place
+    requires { ⌜ HasMark (now s) last ⌝ }
+    ensures { λ p. ⌜ ((r : Records) → Marked (now (s .entry)) r last → Placed (now (s .entry)) r (asked reference (now (name .entry))) (p .from) (p .to)) ⌝ }
+{
+    let mut i = start(s, last, name, reference);
     while i < s.len() {
         let o = item(s, i);
         let from = o.from;
@@ -94,15 +121,23 @@ pub enum Plan {
 }
 
 // Plans the binding of a name to a value of these many bytes.
-fn find_room(s: &[u8], limit: usize, name: &[u8], reference: bool, bit: u8, len: usize) -> Plan
-    requires { ⌜ HasRecords (now s) × (limit ≤ 65535) × IsBit bit ⌝ }
-    ensures { λ p. ⌜ Plans (now (s .entry)) limit (asked reference (now (name .entry))) bit len p ⌝ }
+fn find_room(
+    s: &[u8],
+    last: usize,
+    limit: usize,
+    name: &[u8],
+    reference: bool,
+    bit: u8,
+    len: usize,
+) -> Plan
+    requires { ⌜ HasMark (now s) last × (limit ≤ 65535) × IsBit bit ⌝ }
+    ensures { λ p. ⌜ Plans (now (s .entry)) last limit (asked reference (now (name .entry))) bit len p ⌝ }
 {
     if (limit < name.len()) | (limit < len) {
         return Plan::Over;
     }
     let head = opening_len(name.len(), bit);
-    let p = spot(s, name, reference);
+    let p = spot(s, last, name, reference);
     let total = p.from + head + len + (s.len() - p.to);
     if limit < total {
         return Plan::Over;
@@ -255,6 +290,37 @@ fn source_of(value: Found) -> Source
     }
 }
 
+// Binds a name to a value with this bit, this number and these bytes of its own. At `last` a record of the sheet begins: names that
+// come in order are found from there without a walk from the start. At 0 the search starts with the first record.
+pub fn bind_value_at(
+    buf: &mut [u8],
+    n: usize,
+    last: usize,
+    limit: usize,
+    name: &[u8],
+    reference: bool,
+    bit: u8,
+    size: usize,
+    own: &[u8],
+) -> Put
+    requires { ⌜ Bindable (now buf) n limit × HasMark (take n (now buf)) last × HasSource bit size (now own) ⌝ }
+    ensures { λ o. ⌜ ((v : Value) → IsSource v bit size (now (own .entry)) → BindsAt (now (buf .entry)) n last limit (asked reference (now (name .entry))) v (now (buf .exit)) o) ⌝ }
+{
+    let Plan::Fits(p) = find_room(&buf[..n], last, limit, name, reference, bit, own.len()) else {
+        return Put {
+            bound: Bound::Over,
+            at: 0,
+        };
+    };
+    shift(buf, p.to, n, p.from + p.head + own.len());
+    buffers::store(buf, p.from + p.head, own);
+    put_opening(buf, p.from, name, reference, bit, size);
+    Put {
+        bound: Bound::Length(p.total),
+        at: p.from,
+    }
+}
+
 // Binds a name to a value with this bit, this number and these bytes of its own.
 pub fn bind_value(
     buf: &mut [u8],
@@ -269,13 +335,8 @@ pub fn bind_value(
     requires { ⌜ Bindable (now buf) n limit × HasSource bit size (now own) ⌝ }
     ensures { λ o. ⌜ Binds (now (buf .entry)) n limit (asked reference (now (name .entry))) bit size (now (own .entry)) (now (buf .exit)) o ⌝ }
 {
-    let Plan::Fits(p) = find_room(&buf[..n], limit, name, reference, bit, own.len()) else {
-        return Bound::Over;
-    };
-    shift(buf, p.to, n, p.from + p.head + own.len());
-    buffers::store(buf, p.from + p.head, own);
-    put_opening(buf, p.from, name, reference, bit, size);
-    Bound::Length(p.total)
+    let o = bind_value_at(buf, n, 0, limit, name, reference, bit, size, own);
+    o.bound
 }
 
 // Binds a name to a value with this bit and this number, whose own bytes stand in the same buffer, behind the limit.
@@ -293,7 +354,7 @@ pub fn bind_behind(
     ensures { λ o. ⌜ Binds (now (buf .entry)) n limit (now (name .entry)) bit size (slice from to (now (buf .entry))) (now (buf .exit)) o ⌝ }
 {
     let len = to - from;
-    let Plan::Fits(p) = find_room(&buf[..n], limit, name, false, bit, len) else {
+    let Plan::Fits(p) = find_room(&buf[..n], 0, limit, name, false, bit, len) else {
         return Bound::Over;
     };
     shift(buf, p.to, n, p.from + p.head + len);
@@ -369,7 +430,7 @@ pub fn bind_found(
     ensures { λ o. ⌜ ((v : Value) → Gives (take n (now (buf .entry))) (some v) value → BindsTo (now (buf .entry)) n limit (asked reference (now (name .entry))) v (now (buf .exit)) o) ⌝ }
 {
     let o = source_of(value);
-    let Plan::Fits(p) = find_room(&buf[..n], limit, name, reference, o.bit, o.to - o.from) else {
+    let Plan::Fits(p) = find_room(&buf[..n], 0, limit, name, reference, o.bit, o.to - o.from) else {
         return Bound::Over;
     };
     arrange(buf, p.from + p.head, o.from, o.to, p.to, n);

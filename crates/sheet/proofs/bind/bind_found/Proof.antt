@@ -11,7 +11,8 @@ use mathlib.Core.Path.{_≡_, refl, sym, ap, _∙_}
 use native.Mathlib.Omega.{arith}
 use lib.ListN.{length}
 use lib.Seq.{length-take-le, length-sets}
-use Rattle.sheet.specs.Write.{bound-over, bound-there, fit-bounds, opens-there, source-length}
+use Rattle.sheet.specs.Mark.{has-start}
+use Rattle.sheet.specs.Write.{binds-start, bound-over, bound-there, fit-bounds, opens-there, source-length}
 
 source-of-requires : tie.Need-source-of-requires
 source-of-requires c κs = search needs
@@ -30,7 +31,7 @@ sub-find-room c =
 find-room-requires : tie.Need-find-room-requires
 find-room-requires c κs =
     let s = c .before .before .source-of .ensures _ _ (c .before .before .before .before .before .pre .1 .gives) in
-    (c .before .before .before .before .before .pre .0 .sheet, c .before .before .before .before .before .pre .0 .small, record { v = c .before .before .before .before .before .pre .1 .v; is = s .is .sort })
+    (has-start (c .before .before .before .before .before .pre .0 .sheet), c .before .before .before .before .before .pre .0 .small, record { v = c .before .before .before .before .before .pre .1 .v; is = s .is .sort })
 
 enum-known-p : tie.Need-enum-known-p
 enum-known-p c = search needs
@@ -45,23 +46,23 @@ returns : tie.Need-returns
 returns c =
     λ v g.
     let s = c .before .before .before .before .before .source-of .ensures _ v g in
-    bound-over (c .before .before .before .before .before .before .before .before .pre .0) _ _ _ _ (c .before .before .find-room .ensures) (c .enum-told .given .1) (source-length (c .before .before .before .before .before .before .before .before .pre .0) s .1) v (s .is)
+    binds-start (bound-over (c .before .before .before .before .before .before .before .before .pre .0) (has-start (c .before .before .before .before .before .before .before .before .pre .0 .sheet)) _ _ _ _ (c .before .before .find-room .ensures) (c .enum-told .given .1) (source-length (c .before .before .before .before .before .before .before .before .pre .0) s .1) v (s .is))
 
 add-arrange : tie.Need-add-arrange
 add-arrange c =
-    let o = fit-bounds (c .before .before .before .before .before .before .before .before .before .before .before .pre .0) _ _ _ _ (c .before .before .before .before .before .find-room .ensures) (c .before .before .before .p .given .1) in
+    let o = fit-bounds (c .before .before .before .before .before .before .before .before .before .before .before .pre .0) (has-start (c .before .before .before .before .before .before .before .before .before .before .before .pre .0 .sheet)) _ _ _ _ (c .before .before .before .before .before .find-room .ensures) (c .before .before .before .p .given .1) in
     omega (arith, o .on, o .inside, o .sum, o .small, o .head, o .short, o .own, c .before .before .before .before .before .before .before .before .before .before .before .pre .0 .small)
 
 arrange-requires : tie.Need-arrange-requires
 arrange-requires c κs =
     let s = c .before .before .before .before .before .before .before .before .source-of .ensures _ _ (c .before .before .before .before .before .before .before .before .before .before .before .pre .1 .gives) in
-    let o = fit-bounds (c .before .before .before .before .before .before .before .before .before .before .before .pre .0) _ _ _ _ (c .before .before .before .before .before .find-room .ensures) (c .before .before .before .p .given .1) in
+    let o = fit-bounds (c .before .before .before .before .before .before .before .before .before .before .before .pre .0) (has-start (c .before .before .before .before .before .before .before .before .before .before .before .pre .0 .sheet)) _ _ _ _ (c .before .before .before .before .before .find-room .ensures) (c .before .before .before .p .given .1) in
     record { on = s .on; own = source-length (c .before .before .before .before .before .before .before .before .before .before .before .pre .0) s .0; tail = o .inside; inside = c .before .before .before .before .before .before .before .before .before .before .before .pre .0 .inside; room = omega (arith, o .sum, c .before .before .before .before .before .before .before .before .before .before .before .pre .0 .room) }
 
 put-opening-requires : tie.Need-put-opening-requires
 put-opening-requires c κs =
     let s = c .before .before .before .before .before .before .before .before .before .before .before .before .source-of .ensures _ _ (c .before .before .before .before .before .before .before .before .before .before .before .before .before .before .before .pre .1 .gives) in
-    opens-there (c .before .before .before .before .before .before .before .before .before .before .before .before .before .before .before .pre .0) _ _ _ _ (c .before .before .before .before .before .before .before .before .before .find-room .ensures) (c .before .before .before .before .before .before .before .p .given .1) (simp length-sets at (ap length (c .before .before .before .arrange .ensures))) (s .is) (source-length (c .before .before .before .before .before .before .before .before .before .before .before .before .before .before .before .pre .0) s .1)
+    opens-there (c .before .before .before .before .before .before .before .before .before .before .before .before .before .before .before .pre .0) (has-start (c .before .before .before .before .before .before .before .before .before .before .before .before .before .before .before .pre .0 .sheet)) _ _ _ _ (c .before .before .before .before .before .before .before .before .before .find-room .ensures) (c .before .before .before .before .before .before .before .p .given .1) (simp length-sets at (ap length (c .before .before .before .arrange .ensures))) (s .is) (source-length (c .before .before .before .before .before .before .before .before .before .before .before .before .before .before .before .pre .0) s .1)
 
 same-length-2 : tie.Need-same-length-2
 same-length-2 c = search needs
@@ -70,7 +71,7 @@ returns-2 : tie.Need-returns-2
 returns-2 c =
     λ v g.
     let s = c .before .before .before .before .before .before .before .before .before .before .before .before .before .before .before .source-of .ensures _ v g in
-    bound-there (c .before .before .before .before .before .before .before .before .before .before .before .before .before .before .before .before .before .before .pre .0) _ _ _ _ (c .before .before .before .before .before .before .before .before .before .before .before .before .find-room .ensures) (c .before .before .before .before .before .before .before .before .before .before .p .given .1) _ _ _ (s .on) (source-length (c .before .before .before .before .before .before .before .before .before .before .before .before .before .before .before .before .before .before .pre .0) s .0) refl v (s .is) (c .before .before .before .before .before .before .arrange .ensures) (c .before .before .put-opening .ensures)
+    binds-start (bound-there (c .before .before .before .before .before .before .before .before .before .before .before .before .before .before .before .before .before .before .pre .0) (has-start (c .before .before .before .before .before .before .before .before .before .before .before .before .before .before .before .before .before .before .pre .0 .sheet)) _ _ _ _ (c .before .before .before .before .before .before .before .before .before .before .before .before .find-room .ensures) (c .before .before .before .before .before .before .before .before .before .before .p .given .1) _ _ _ (s .on) (source-length (c .before .before .before .before .before .before .before .before .before .before .before .before .before .before .before .before .before .before .pre .0) s .0) refl v (s .is) (c .before .before .before .before .before .before .arrange .ensures) (c .before .before .put-opening .ensures))
 
 pub bind-found-spec : {M : Type 1} → statement M
 bind-found-spec =

@@ -11,7 +11,7 @@ use lib.ListN.{length}
 use Rattle.sheet.specs.Write.{open-le, short-of, plans-long, plans-over, plans-fits}
 
 returns : tie.Need-returns
-returns c = plans-long _ _ _ _ _ _ (c .if1 .taken)
+returns c = plans-long _ _ _ _ _ _ _ (c .if1 .taken)
 
 opening-len-requires : tie.Need-opening-len-requires
 opening-len-requires c κs =
@@ -24,31 +24,31 @@ spot-requires c κs = c .before .before .before .before .pre .0
 add-total : tie.Need-add-total
 add-total c =
     let a = c .before .before .before .before .before .before .args in
-    let p = c .before .spot .ensures _ (c .before .before .before .before .before .before .pre .0 .bytes) in
+    let p = c .before .spot .ensures _ (c .before .before .before .before .before .before .pre .0 .marked) in
     omega (arith, p .on, p .inside, c .before .before .opening-len .ensures, open-le (length (a .name .now)) (a .bit), short-of (a .limit) (length (a .name .now)) (a .len) (c .before .before .before .if1 .left) .0, short-of (a .limit) (length (a .name .now)) (a .len) (c .before .before .before .if1 .left) .1)
 
 add-total-2 : tie.Need-add-total-2
 add-total-2 c =
     let a = c .before .before .before .before .before .before .args in
-    let p = c .before .spot .ensures _ (c .before .before .before .before .before .before .pre .0 .bytes) in
+    let p = c .before .spot .ensures _ (c .before .before .before .before .before .before .pre .0 .marked) in
     omega (arith, p .on, p .inside, c .before .before .opening-len .ensures, open-le (length (a .name .now)) (a .bit), short-of (a .limit) (length (a .name .now)) (a .len) (c .before .before .before .if1 .left) .0, short-of (a .limit) (length (a .name .now)) (a .len) (c .before .before .before .if1 .left) .1)
 
 sub-total : tie.Need-sub-total
 sub-total c =
-    let p = c .before .before .spot .ensures _ (c .before .before .before .before .before .before .before .pre .0 .bytes) in
+    let p = c .before .before .spot .ensures _ (c .before .before .before .before .before .before .before .pre .0 .marked) in
     omega (arith, p .on, p .inside)
 
 add-total-3 : tie.Need-add-total-3
 add-total-3 c =
     let a = c .before .before .before .before .before .before .before .args in
-    let p = c .before .before .spot .ensures _ (c .before .before .before .before .before .before .before .pre .0 .bytes) in
+    let p = c .before .before .spot .ensures _ (c .before .before .before .before .before .before .before .pre .0 .marked) in
     omega (arith, p .on, p .inside, c .before .before .before .opening-len .ensures, open-le (length (a .name .now)) (a .bit), short-of (a .limit) (length (a .name .now)) (a .len) (c .before .before .before .before .if1 .left) .0, short-of (a .limit) (length (a .name .now)) (a .len) (c .before .before .before .before .if1 .left) .1)
 
 returns-2 : tie.Need-returns-2
-returns-2 c = plans-over _ _ _ _ _ _ (c .before .before .before .spot .ensures) (c .before .before .before .before .opening-len .ensures) refl (c .if2 .taken)
+returns-2 c = plans-over _ _ _ _ _ _ _ (c .before .before .before .spot .ensures) (c .before .before .before .before .opening-len .ensures) refl (c .if2 .taken)
 
 returns-3 : tie.Need-returns-3
-returns-3 c = plans-fits _ _ _ _ _ _ (c .before .before .before .spot .ensures) (c .before .before .before .before .opening-len .ensures) refl (search needs) (c .before .before .before .before .before .if1 .left)
+returns-3 c = plans-fits _ _ _ _ _ _ _ (c .before .before .before .spot .ensures) (c .before .before .before .before .opening-len .ensures) refl (search needs) (c .before .before .before .before .before .if1 .left)
 
 pub find-room-spec : {M : Type 1} → statement M
 find-room-spec =

@@ -3,6 +3,7 @@ use Rattle.sheet.proofs.bind.spot.Statement.{statement}
 use Rattle.sheet.proofs.bind.spot.Tie as tie
 use Rattle.sheet.proofs.bind.spot.Reads as reads
 use Rattle.sheet.proofs.bind.spot.Lts as lts
+use Rattle.sheet.proofs.bind.start.Reads as start-reads
 use Rattle.sheet.proofs.lookup.item.Reads as item-reads
 use Rattle.sheet.proofs.lookup.order.Reads as order-reads
 use Rattle.sheet.proofs.lookup.skip.Reads as skip-reads
@@ -10,43 +11,47 @@ use mathlib.Core.Path.{_≡_, refl, sym, ap, _∙_}
 use native.Mathlib.Omega.{arith}
 use Prim.Native.Nat.{ℕ, _≤_, _-_, _+_}
 use lib.ListN.{length}
-use Rattle.rules.specs.Sheet.{Records, encode}
+use Rattle.rules.specs.Sheet.{Records}
 use Rattle.sheet.specs.Order.{asked}
 use Rattle.sheet.specs.Find.{item-holding, item-has, item-rest}
-use Rattle.sheet.specs.Place.{Placing, place-start, standing, standing-at, place-end, place-below, place-same, place-on}
+use Rattle.sheet.specs.Mark.{Marked}
+use Rattle.sheet.specs.Place.{Placing, standing, standing-at, place-end, place-below, place-same, place-on}
 
 abbrev Inv-loop : tie.InvT-loop
-Inv-loop s name reference i₀ i = (r : Records) → s ≡ encode r → Placing s r (asked reference name) i
+Inv-loop s last name reference i₀ i = (r : Records) → Marked s r last → Placing s r (asked reference name) i
 
 abbrev μ-loop : tie.MeasureT-loop
-μ-loop s name reference i₀ i = length s - i
+μ-loop s last name reference i₀ i = length s - i
+
+start-requires : tie.Need-start-requires Inv-loop μ-loop
+start-requires c κs = search needs
 
 loop-holds : tie.Need-loop-holds Inv-loop μ-loop
-loop-holds c = λ r p. place-start p
+loop-holds c = λ r p. c .start .ensures r p
 
 item-requires : tie.Need-item-requires Inv-loop μ-loop
-item-requires c κs = standing-at (standing (c .before .loop .inv _ (c .before .before .before .before .pre .bytes)) (search needs))
+item-requires c κs = standing-at (standing (c .before .loop .inv _ (c .before .before .before .before .before .pre .marked)) (search needs))
 
 skip-requires : tie.Need-skip-requires Inv-loop μ-loop
 skip-requires c κs =
-    let k = standing (c .before .before .loop .inv _ (c .before .before .before .before .before .pre .bytes)) (search needs) in
+    let k = standing (c .before .before .loop .inv _ (c .before .before .before .before .before .before .pre .marked)) (search needs) in
     item-has (c .item .ensures _ _ _ _ (k .part))
 
 sub-order : tie.Need-sub-order Inv-loop μ-loop
 sub-order c =
-    let k = standing (c .before .before .before .loop .inv _ (c .before .before .before .before .before .before .pre .bytes)) (search needs) in
+    let k = standing (c .before .before .before .loop .inv _ (c .before .before .before .before .before .before .before .pre .marked)) (search needs) in
     let d = c .before .item .ensures _ _ _ _ (k .part) in
     omega (arith, d .name .ends, d .name .inside)
 
 part-order-start : tie.Need-part-order-start Inv-loop μ-loop
 part-order-start c =
-    let k = standing (c .before .before .before .loop .inv _ (c .before .before .before .before .before .before .pre .bytes)) (search needs) in
+    let k = standing (c .before .before .before .loop .inv _ (c .before .before .before .before .before .before .before .pre .marked)) (search needs) in
     let d = c .before .item .ensures _ _ _ _ (k .part) in
     omega (arith, d .name .ends, d .name .inside)
 
 part-order-end : tie.Need-part-order-end Inv-loop μ-loop
 part-order-end c =
-    let k = standing (c .before .before .before .loop .inv _ (c .before .before .before .before .before .before .pre .bytes)) (search needs) in
+    let k = standing (c .before .before .before .loop .inv _ (c .before .before .before .before .before .before .before .pre .marked)) (search needs) in
     let d = c .before .item .ensures _ _ _ _ (k .part) in
     omega (arith, d .name .ends, d .name .inside)
 
@@ -70,7 +75,7 @@ returns-2 c =
 
 loop-less : tie.Need-loop-less Inv-loop μ-loop
 loop-less c =
-    let k = standing (c .before .before .before .before .before .before .before .loop .inv _ (c .before .before .before .before .before .before .before .before .before .before .pre .bytes)) (search needs) in
+    let k = standing (c .before .before .before .before .before .before .before .loop .inv _ (c .before .before .before .before .before .before .before .before .before .before .before .pre .marked)) (search needs) in
     let d = c .before .before .before .before .before .item .ensures _ _ _ _ (k .part) in
     omega (arith, d .on, c .before .before .before .before .skip .ensures _ _ (item-holding d))
 
@@ -91,6 +96,7 @@ spot-spec =
     (tie.spec
     Inv-loop
     μ-loop
+    start-requires
     loop-holds
     item-requires
     skip-requires
