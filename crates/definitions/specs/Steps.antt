@@ -22,9 +22,11 @@ use Rattle.scan.specs.Sets.{part, Spans}
 use Rattle.buffers.specs.Emits.{guard, guard-yes, guard-no}
 use Rattle.sheet.specs.Order.{asked}
 use Rattle.sheet.specs.Find.{IsSheet}
-use Rattle.sheet.specs.Write.{IsSource, BindsTo}
-use Rattle.sheet.specs.Use.{Holds, holds-sheet, bound-bytes, over-long}
-use Rattle.sheet.specs.declared.bind.Bound.{Bound}
+use Rattle.sheet.specs.Place.{Between}
+use Rattle.sheet.specs.Mark.{Mark, Marked, mark-of}
+use Rattle.sheet.specs.Write.{IsSource, BindsAt}
+use Rattle.sheet.specs.Use.{Holds, holds-sheet, leaves-bytes, leaves-over}
+use Rattle.sheet.specs.declared.bind.Put.{Put}
 use Rattle.sheet.specs.declared.bind.Bound.the-variants.{Over, Length}
 use Rattle.values.specs.declared.Valued.{Valued}
 use Rattle.values.specs.Values.{Taken, ReadsValue}
@@ -52,12 +54,13 @@ pub record Comes (limit : ℕ) (d : Did Records × List ℕ) (t m : List ℕ) (r
   pub goes : r .ok ≡ true → Bound-so limit d t m r
   pub stops : r .ok ≡ false → guard sheetLength limit (d .0) ≡ fail (r .number)
 
--- `#let` from `at` on, for the records in the first n bytes of l, which leaves m.
+-- `#let` from `at` on, for the records in the first n bytes of l, which leaves m; the next step may search from where its record was put.
 pub record DefinesLet (limit : ℕ) (t : List ℕ) (at : ℕ) (l : List ℕ) (n : ℕ) (m : List ℕ) (r : Stepped) : Type 0 where
   pub size : length m ≡ length l
   pub on : at ≤ r .at
   pub inside : r .at ≤ length t
   pub does : (i : Records → List ℕ → Names → Answer Records) (s : Records) → Holds s l n limit → Comes limit (letStep limit i s (drop at t)) t m r
+  pub mark : r .ok ≡ true → Mark (take (r .len) m) (r .last)
 
 -- LAWS. What a `#let` leaves is good.
 same : Records → List ℕ → Names → Answer Records
@@ -78,7 +81,7 @@ module _ (limit : ℕ) {t : List ℕ} {at a b e : ℕ} (X : Spans blank t at a) 
   let-reads i s = rw (X .rest, Y .rest, Y .took, Z .rest) refl
 
   module _ {l : List ℕ} {n : ℕ} {w w₂ : List ℕ} {v : Valued} (R : ReadsValue limit (λ s. value limit s (dictionaryValue limit s 6)) t e (take n l) w w₂ v) where
-    pub let-no : v .ok ≡ false → DefinesLet limit t at l n l (record { ok = false; number = v .number; at = v .at; len = n })
+    pub let-no : v .ok ≡ false → DefinesLet limit t at l n l (record { ok = false; number = v .number; at = v .at; len = n; last = 0 })
     unfolding letBound bound
     let-no h = record {
       size = refl;
@@ -88,6 +91,7 @@ module _ (limit : ℕ) {t : List ℕ} {at a b e : ℕ} (X : Spans blank t at a) 
         goes = λ y. absurd (true≢false (sym y));
         stops = λ y. ap (λ x. guard sheetLength limit (x .0)) (let-reads i s) ∙ ap (λ x. guard sheetLength limit (letBound s (underscored (part t a b)) x)) (R .stops (holds-sheet g) h) ∙ within (bound s (refused (v .number))) refl g;
       };
+      mark = λ y. absurd (true≢false (sym y));
     }
 
     module _ (h : v .ok ≡ true) where
@@ -99,8 +103,8 @@ module _ (limit : ℕ) {t : List ℕ} {at a b e : ℕ} (X : Spans blank t at a) 
       unfolding letBound
       let-is i {s} g = let-reads i s ∙ λ y. (letBound s (underscored (part t a b)) (taken g .is y), taken g .rest y)
 
-      module _ {m : List ℕ} {o : Bound} (B : (x : Value) → IsSource x (v .bit) (v .size) (take (v .len) w₂) → BindsTo l n limit (asked true (part t a b)) x m o) where
-        binds : {s : Records} (g : Holds s l n limit) → BindsTo l n limit (underscored (part t a b)) (taken g .v) m o
+      module _ {last : ℕ} {m : List ℕ} {o : Put} (B : (x : Value) → IsSource x (v .bit) (v .size) (take (v .len) w₂) → BindsAt l n last limit (asked true (part t a b)) x m o) where
+        binds : {s : Records} (g : Holds s l n limit) → BindsAt l n last limit (underscored (part t a b)) (taken g .v) m o
         unfolding asked
         binds g = B (taken g .v) (taken g .source)
 
@@ -108,38 +112,56 @@ module _ (limit : ℕ) {t : List ℕ} {at a b e : ℕ} (X : Spans blank t at a) 
           pub let-size : length m ≡ length l
           let-size = binds (keeps-holds k) .long
 
-          pub let-over : o ≡ Over → DefinesLet limit t at l n m (record { ok = false; number = 9; at = v .at; len = n })
-          unfolding bound
-          let-over y = record {
-            size = let-size;
-            on = omega (arith, X .on, Y .on, Z .on, R .on);
-            inside = R .inside;
-            does = λ i s g. record {
-              goes = λ z. absurd (true≢false (sym z));
-              stops = λ z. ap (λ x. guard sheetLength limit (x .0)) (let-is i g) ∙ guard-no sheetLength limit _ (lt-leb _ limit (over-long s (g .bytes) (rw y at (binds g))));
-            };
-          }
+          module _ (p : Mark (take n l) last) where
+            marked : {s : Records} → Holds s l n limit → Marked (take n l) s last
+            marked g = mark-of p (g .bytes) (g .good)
 
-          pub let-bound : {p : ℕ} → all ascii t ≡ true → o ≡ Length p → DefinesLet limit t at l n m (record { ok = true; number = 0; at = v .at; len = p })
-          unfolding bound
-          let-bound {p} u y = record {
-            size = let-size;
-            on = omega (arith, X .on, Y .on, Z .on, R .on);
-            inside = R .inside;
-            does = λ i s g.
-                let x = bound-bytes s (g .bytes) (rw y at (binds g)) in
-                let j = let-is i g in
-                record {
-                  goes = λ z. record {
-                    emits = ap (λ q. q .0 .emit) j;
-                    rest = ap (λ q. q .1) j;
-                    holds = record {
-                      bytes = x .1 ∙ ap (λ q. encode (q .0 .state)) (sym j);
-                      long = x .2 ∙ ap (λ q. sheetLength (q .0 .state)) (sym j);
-                      fits = x .0;
-                      good = good-let limit i s (drop at t) (all-right ascii (take at t) (drop at t) (ap (all ascii) (take-append-drop at t) ∙ u)) (g .good);
+            pub let-over : o .bound ≡ Over → DefinesLet limit t at l n m (record { ok = false; number = 9; at = v .at; len = n; last = 0 })
+            unfolding bound
+            let-over y = record {
+              size = let-size;
+              on = omega (arith, X .on, Y .on, Z .on, R .on);
+              inside = R .inside;
+              does = λ i s g. record {
+                goes = λ z. absurd (true≢false (sym z));
+                stops = λ z. ap (λ x. guard sheetLength limit (x .0)) (let-is i g) ∙ guard-no sheetLength limit _ (lt-leb _ limit (leaves-over m limit (set s (underscored (part t a b)) (taken g .v)) (rw y at (binds g .leaves s (marked g)))));
+              };
+              mark = λ z. absurd (true≢false (sym z));
+            }
+
+            module _ (u : all ascii t ≡ true) {q : ℕ} (y : o .bound ≡ Length q) where
+              let-comes : (i : Records → List ℕ → Names → Answer Records) {s : Records} (g : Holds s l n limit) → Holds (letStep limit i s (drop at t) .0 .state) m q limit
+              unfolding bound
+              let-comes i {s} g =
+                  let x = leaves-bytes m limit (set s (underscored (part t a b)) (taken g .v)) q (rw y at (binds g .leaves s (marked g))) in
+                  let j = let-is i g in
+                  record {
+                    bytes = x .1 ∙ ap (λ z. encode (z .0 .state)) (sym j);
+                    long = x .2 ∙ ap (λ z. sheetLength (z .0 .state)) (sym j);
+                    fits = x .0;
+                    good = good-let limit i s (drop at t) (all-right ascii (take at t) (drop at t) (ap (all ascii) (take-append-drop at t) ∙ u)) (g .good);
+                  }
+
+              let-mark : Mark (take q m) (o .at)
+              unfolding bound
+              let-mark =
+                  let g = keeps-holds k in
+                  record {
+                    sheet = holds-sheet (let-comes same g);
+                    between = subst (λ z. Between (z .0 .state) (o .at)) (sym (let-is same g)) (binds g .between (k .sheet .r) (marked g));
+                  }
+
+              pub let-bound : DefinesLet limit t at l n m (record { ok = true; number = 0; at = v .at; len = q; last = o .at })
+              unfolding bound
+              let-bound = record {
+                size = let-size;
+                on = omega (arith, X .on, Y .on, Z .on, R .on);
+                inside = R .inside;
+                does = λ i s g.
+                    let j = let-is i g in
+                    record {
+                      goes = λ z. record { emits = ap (λ x. x .0 .emit) j; rest = ap (λ x. x .1) j; holds = let-comes i g };
+                      stops = λ z. absurd (true≢false z);
                     };
-                  };
-                  stops = λ z. absurd (true≢false z);
-                };
-          }
+                mark = λ z. let-mark;
+              }

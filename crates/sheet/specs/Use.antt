@@ -47,14 +47,21 @@ pub to-bind : {b : List ℕ} → IsSheet b → HasRecords b
 to-bind s = record { r = s .r; bytes = s .bytes }
 
 -- What a binding leaves.
+module _ (c : List ℕ) (l : ℕ) (r : Records) where
+  pub leaves-bytes : (m : ℕ) → Leaves c l (encode r) (Length m) → (m ≤ l) × (take m c ≡ encode r) × (m ≡ sheetLength r)
+  unfolding Leaves sheetLength
+  leaves-bytes m g = (g .0, g .2, g .1)
+
+  pub leaves-over : Leaves c l (encode r) Over → l < sheetLength r
+  unfolding Leaves sheetLength
+  leaves-over g = g
+
 module _ {b : List ℕ} {n l : ℕ} {name : List ℕ} {v : Value} {c : List ℕ} (r : Records) (e : take n b ≡ encode r) where
   pub bound-bytes : {m : ℕ} → BindsTo b n l name v c (Length m) → (m ≤ l) × (take m c ≡ encode (set r name v)) × (m ≡ sheetLength (set r name v))
-  unfolding Leaves sheetLength
-  bound-bytes w = let g = w .leaves r e in (g .0, g .2, g .1)
+  bound-bytes {m} w = leaves-bytes c l (set r name v) m (w .leaves r e)
 
   pub over-long : BindsTo b n l name v c Over → l < sheetLength (set r name v)
-  unfolding Leaves sheetLength
-  over-long w = w .leaves r e
+  over-long w = leaves-over c l (set r name v) (w .leaves r e)
 
   pub bound-sheet : {m : ℕ} → goodRecords r word 6 ≡ true → all word name ≡ true → goodValue v 6 ≡ true → BindsTo b n l name v c (Length m) → IsSheet (take m c)
   bound-sheet g a o w = record { r = set r name v; bytes = bound-bytes w .1; good = set-good r word 6 name v g a o }

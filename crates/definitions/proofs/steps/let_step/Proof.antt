@@ -4,13 +4,13 @@ use Rattle.definitions.proofs.steps.let_step.Tie as tie
 use Rattle.definitions.proofs.steps.let_step.Reads as reads
 use Rattle.definitions.proofs.steps.let_step.Lts as lts
 use Rattle.scan.proofs.span.Reads as span-reads
-use Rattle.sheet.proofs.bind.bind_value.Reads as bind-value-reads
+use Rattle.sheet.proofs.bind.bind_value_at.Reads as bind-value-at-reads
 use Rattle.values.proofs.value.Reads as value-reads
 use mathlib.Core.Path.{_≡_, refl, sym, ap, _∙_}
 use native.Mathlib.Omega.{arith}
 use lib.Seq.{length-take-le}
 use borrow.Author.Tests.{not-true, not-false}
-use Rattle.sheet.specs.Write.{Binds}
+use Rattle.sheet.specs.Mark.{has-mark}
 use Rattle.sheet.specs.Use.{to-bind}
 use Rattle.values.specs.Values.{slot-le}
 use Rattle.definitions.specs.Steps.{let-no, let-size, let-over, let-bound}
@@ -46,26 +46,26 @@ same-length-2 c = c .before .before .before .before .value .ensures .size
 returns : tie.Need-returns
 returns c = (c .before .before .before .before .value .ensures .size, let-no _ (c .before .before .before .before .before .before .before .before .before .span .ensures) (c .before .before .before .before .before .before .before .before .span2 .ensures) (c .before .before .before .before .before .before .before .span3 .ensures) (c .before .before .before .before .value .ensures) (not-true _ (c .if1 .taken)))
 
-sub-bind-value : tie.Need-sub-bind-value
-sub-bind-value c = search needs
+sub-bind-value-at : tie.Need-sub-bind-value-at
+sub-bind-value-at c = search needs
 
-part-bind-value-start : tie.Need-part-bind-value-start
-part-bind-value-start c = search needs
+part-bind-value-at-start : tie.Need-part-bind-value-at-start
+part-bind-value-at-start c = search needs
 
-part-bind-value-end : tie.Need-part-bind-value-end
-part-bind-value-end c = search needs
+part-bind-value-at-end : tie.Need-part-bind-value-at-end
+part-bind-value-at-end c = search needs
 
-slice-reshare-prefix-bind-value : tie.Need-slice-reshare-prefix-bind-value
-slice-reshare-prefix-bind-value c = omega (arith, c .before .before .before .before .before .before .value .ensures .fits, c .before .before .before .before .before .before .value .ensures .size, slot-le (c .before .before .before .before .before .before .before .before .before .before .before .before .before .before .before .args .limit) 6, c .before .before .before .before .before .before .before .before .before .before .before .before .before .before .before .pre .3 .fits)
+slice-reshare-prefix-bind-value-at : tie.Need-slice-reshare-prefix-bind-value-at
+slice-reshare-prefix-bind-value-at c = omega (arith, c .before .before .before .before .before .before .value .ensures .fits, c .before .before .before .before .before .before .value .ensures .size, slot-le (c .before .before .before .before .before .before .before .before .before .before .before .before .before .before .before .args .limit) 6, c .before .before .before .before .before .before .before .before .before .before .before .before .before .before .before .pre .3 .fits)
 
-slice-aggregate-bind-value : tie.Need-slice-aggregate-bind-value
-slice-aggregate-bind-value c = sym (length-take-le _ _ (omega (arith, c .before .before .before .before .before .before .before .value .ensures .fits, c .before .before .before .before .before .before .before .value .ensures .size, slot-le (c .before .before .before .before .before .before .before .before .before .before .before .before .before .before .before .before .args .limit) 6, c .before .before .before .before .before .before .before .before .before .before .before .before .before .before .before .before .pre .3 .fits)))
+slice-aggregate-bind-value-at : tie.Need-slice-aggregate-bind-value-at
+slice-aggregate-bind-value-at c = sym (length-take-le _ _ (omega (arith, c .before .before .before .before .before .before .before .value .ensures .fits, c .before .before .before .before .before .before .before .value .ensures .size, slot-le (c .before .before .before .before .before .before .before .before .before .before .before .before .before .before .before .before .args .limit) 6, c .before .before .before .before .before .before .before .before .before .before .before .before .before .before .before .before .pre .3 .fits)))
 
-bind-value-requires : tie.Need-bind-value-requires
-bind-value-requires c κs =
+bind-value-at-requires : tie.Need-bind-value-at-requires
+bind-value-at-requires c κs =
     let k = c .before .before .before .before .before .before .before .before .before .before .before .before .before .before .before .before .pre .2 in
     let y = c .before .before .before .before .before .before .before .value .ensures .goes (k .sheet) (not-false _ (c .before .before .before .if1 .left)) in
-    (record { inside = omega (arith, k .fits, k .room); room = k .room; small = k .most; sheet = to-bind (k .sheet) }, record { v = y .v; is = y .source })
+    (record { inside = omega (arith, k .fits, k .room); room = k .room; small = k .most; sheet = to-bind (k .sheet) }, has-mark (c .before .before .before .before .before .before .before .before .before .before .before .before .before .before .before .before .pre .4), record { v = y .v; is = y .source })
 
 enum-told : tie.Need-enum-told
 enum-told c = search needs
@@ -74,26 +74,22 @@ enum-known-bound : tie.Need-enum-known-bound
 enum-known-bound c = search needs
 
 same-length-3 : tie.Need-same-length-3
-unfolding Binds
-same-length-3 c = let-size _ (c .before .before .before .before .before .before .before .before .before .before .before .before .before .before .before .before .before .span .ensures) (c .before .before .before .before .before .before .before .before .before .before .before .before .before .before .before .before .span2 .ensures) (c .before .before .before .before .before .before .before .before .before .before .before .before .before .before .before .span3 .ensures) (c .before .before .before .before .before .before .before .before .before .before .before .before .value .ensures) (not-false _ (c .before .before .before .before .before .before .before .before .if1 .left)) (c .before .before .before .before .bind-value .ensures) (c .before .before .before .before .before .before .before .before .before .before .before .before .before .before .before .before .before .before .before .before .before .pre .2)
+same-length-3 c = let-size _ (c .before .before .before .before .before .before .before .before .before .before .before .before .before .before .before .before .before .span .ensures) (c .before .before .before .before .before .before .before .before .before .before .before .before .before .before .before .before .span2 .ensures) (c .before .before .before .before .before .before .before .before .before .before .before .before .before .before .before .span3 .ensures) (c .before .before .before .before .before .before .before .before .before .before .before .before .value .ensures) (not-false _ (c .before .before .before .before .before .before .before .before .if1 .left)) (c .before .before .before .before .bind-value-at .ensures) (c .before .before .before .before .before .before .before .before .before .before .before .before .before .before .before .before .before .before .before .before .before .pre .2)
 
 same-length-4 : tie.Need-same-length-4
 same-length-4 c = c .before .before .before .before .before .before .before .before .before .before .before .before .value .ensures .size
 
 returns-2 : tie.Need-returns-2
-unfolding Binds
-returns-2 c = (c .before .before .before .before .before .before .before .before .before .before .before .before .value .ensures .size, let-over _ (c .before .before .before .before .before .before .before .before .before .before .before .before .before .before .before .before .before .span .ensures) (c .before .before .before .before .before .before .before .before .before .before .before .before .before .before .before .before .span2 .ensures) (c .before .before .before .before .before .before .before .before .before .before .before .before .before .before .before .span3 .ensures) (c .before .before .before .before .before .before .before .before .before .before .before .before .value .ensures) (not-false _ (c .before .before .before .before .before .before .before .before .if1 .left)) (c .before .before .before .before .bind-value .ensures) (c .before .before .before .before .before .before .before .before .before .before .before .before .before .before .before .before .before .before .before .before .before .pre .2) (c .enum-told .given .1))
+returns-2 c = (c .before .before .before .before .before .before .before .before .before .before .before .before .value .ensures .size, let-over _ (c .before .before .before .before .before .before .before .before .before .before .before .before .before .before .before .before .before .span .ensures) (c .before .before .before .before .before .before .before .before .before .before .before .before .before .before .before .before .span2 .ensures) (c .before .before .before .before .before .before .before .before .before .before .before .before .before .before .before .span3 .ensures) (c .before .before .before .before .before .before .before .before .before .before .before .before .value .ensures) (not-false _ (c .before .before .before .before .before .before .before .before .if1 .left)) (c .before .before .before .before .bind-value-at .ensures) (c .before .before .before .before .before .before .before .before .before .before .before .before .before .before .before .before .before .before .before .before .before .pre .2) (c .before .before .before .before .before .before .before .before .before .before .before .before .before .before .before .before .before .before .before .before .before .pre .4) (c .enum-told .given .1))
 
 same-length-5 : tie.Need-same-length-5
-unfolding Binds
-same-length-5 c = let-size _ (c .before .before .before .before .before .before .before .before .before .before .before .before .before .before .before .before .before .before .span .ensures) (c .before .before .before .before .before .before .before .before .before .before .before .before .before .before .before .before .before .span2 .ensures) (c .before .before .before .before .before .before .before .before .before .before .before .before .before .before .before .before .span3 .ensures) (c .before .before .before .before .before .before .before .before .before .before .before .before .before .value .ensures) (not-false _ (c .before .before .before .before .before .before .before .before .before .if1 .left)) (c .before .before .before .before .before .bind-value .ensures) (c .before .before .before .before .before .before .before .before .before .before .before .before .before .before .before .before .before .before .before .before .before .before .pre .2)
+same-length-5 c = let-size _ (c .before .before .before .before .before .before .before .before .before .before .before .before .before .before .before .before .before .before .span .ensures) (c .before .before .before .before .before .before .before .before .before .before .before .before .before .before .before .before .before .span2 .ensures) (c .before .before .before .before .before .before .before .before .before .before .before .before .before .before .before .before .span3 .ensures) (c .before .before .before .before .before .before .before .before .before .before .before .before .before .value .ensures) (not-false _ (c .before .before .before .before .before .before .before .before .before .if1 .left)) (c .before .before .before .before .before .bind-value-at .ensures) (c .before .before .before .before .before .before .before .before .before .before .before .before .before .before .before .before .before .before .before .before .before .before .pre .2)
 
 same-length-6 : tie.Need-same-length-6
 same-length-6 c = c .before .before .before .before .before .before .before .before .before .before .before .before .before .value .ensures .size
 
 returns-3 : tie.Need-returns-3
-unfolding Binds
-returns-3 c = (c .before .before .before .before .before .before .before .before .before .before .before .before .before .value .ensures .size, let-bound _ (c .before .before .before .before .before .before .before .before .before .before .before .before .before .before .before .before .before .before .span .ensures) (c .before .before .before .before .before .before .before .before .before .before .before .before .before .before .before .before .before .span2 .ensures) (c .before .before .before .before .before .before .before .before .before .before .before .before .before .before .before .before .span3 .ensures) (c .before .before .before .before .before .before .before .before .before .before .before .before .before .value .ensures) (not-false _ (c .before .before .before .before .before .before .before .before .before .if1 .left)) (c .before .before .before .before .before .bind-value .ensures) (c .before .before .before .before .before .before .before .before .before .before .before .before .before .before .before .before .before .before .before .before .before .before .pre .2) (c .before .before .before .before .before .before .before .before .before .before .before .before .before .before .before .before .before .before .before .before .before .before .pre .1) (c .before .bound .given .1))
+returns-3 c = (c .before .before .before .before .before .before .before .before .before .before .before .before .before .value .ensures .size, let-bound _ (c .before .before .before .before .before .before .before .before .before .before .before .before .before .before .before .before .before .before .span .ensures) (c .before .before .before .before .before .before .before .before .before .before .before .before .before .before .before .before .before .span2 .ensures) (c .before .before .before .before .before .before .before .before .before .before .before .before .before .before .before .before .span3 .ensures) (c .before .before .before .before .before .before .before .before .before .before .before .before .before .value .ensures) (not-false _ (c .before .before .before .before .before .before .before .before .before .if1 .left)) (c .before .before .before .before .before .bind-value-at .ensures) (c .before .before .before .before .before .before .before .before .before .before .before .before .before .before .before .before .before .before .before .before .before .before .pre .2) (c .before .before .before .before .before .before .before .before .before .before .before .before .before .before .before .before .before .before .before .before .before .before .pre .4) (c .before .before .before .before .before .before .before .before .before .before .before .before .before .before .before .before .before .before .before .before .before .before .pre .1) (c .before .bound .given .1))
 
 pub let-step-spec : {M : Type 1} → statement M
 let-step-spec =
@@ -108,12 +104,12 @@ let-step-spec =
     same-length
     same-length-2
     returns
-    sub-bind-value
-    part-bind-value-start
-    part-bind-value-end
-    slice-reshare-prefix-bind-value
-    slice-aggregate-bind-value
-    bind-value-requires
+    sub-bind-value-at
+    part-bind-value-at-start
+    part-bind-value-at-end
+    slice-reshare-prefix-bind-value-at
+    slice-aggregate-bind-value-at
+    bind-value-at-requires
     enum-told
     enum-known-bound
     same-length-3
