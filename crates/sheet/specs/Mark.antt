@@ -1,6 +1,6 @@
 -- A place of a sheet from which a name may be searched for.
 use mathlib.Core.Path.{_≡_, refl, sym, ap, _∙_}
-use mathlib.Core.Bool.{Bool, true, false}
+use mathlib.Core.Bool.{Bool, true, false, _&&_}
 use mathlib.Core.List.{List, [], _∷_, _++_, append-nil}
 use mathlib.Core.Option.{Option, some}
 use Prim.Native.Nat.{ℕ, zero, suc, _+_, _≤_, _<_}
@@ -11,28 +11,47 @@ use lib.Seq.{take-append-seam, drop-append-seam}
 use borrow.Author.Tests.{ne-eqb}
 use Rattle.rules.specs.Bytes.{word, less}
 use Rattle.rules.specs.Sheet.{Value, Records, end, rec, encode, goodRecords, decode, set, before}
-use Rattle.rules.specs.Laws.Sheet.{less-trans, less-asym, less-up, good-parts, decode-encode}
+use Rattle.rules.specs.Laws.Bool.{and-i, and-l, and-r}
+use Rattle.rules.specs.Laws.Sheet.{less-trans, less-same, less-asym, less-up, good-parts, before-set, decode-encode}
 use Rattle.sheet.specs.Parts.{Part, slice, part-slice, part-of}
 use Rattle.sheet.specs.Items.{At, join, encode-join}
 use Rattle.sheet.specs.Order.{orderOf, order-less}
 use Rattle.sheet.specs.Find.{IsSheet}
-use Rattle.sheet.specs.Place.{HasRecords, Tail, Between, Placing, between-start, set-past}
+use Rattle.sheet.specs.Place.{HasRecords, Tail, Between, Placing, between-start, set-below, set-same, set-past}
 
--- Names that ascend: the records are good for some bytes and some levels.
-pub record Ascends (r : Records) : Type 0 where
-  pub p : ℕ → Bool
-  pub l : ℕ
-  pub good : goodRecords r p l ≡ true
+-- Does each name stand before the next one.
+unfoldable pub ascending : Records → Bool
+ascending end = true
+ascending (rec n v r) = before n r && ascending r
 
 -- A search among the records r, whose bytes are s, may start at i, or at 0. At 0 nothing is asked of the names.
 pub record Marked (s : List ℕ) (r : Records) (i : ℕ) : Type 0 where
   pub bytes : s ≡ encode r
   pub between : Between r i
-  pub order : (i ≡ 0 → ⊥) → Ascends r
+  pub order : (i ≡ 0 → ⊥) → ascending r ≡ true
 
 pub record HasMark (s : List ℕ) (i : ℕ) : Type 0 where
   pub r : Records
   pub marked : Marked s r i
+
+-- Names of good records ascend, and go on to do so where one is bound.
+pub good-ascending : (r : Records) (p : ℕ → Bool) (l : ℕ) → goodRecords r p l ≡ true → ascending r ≡ true
+unfolding ascending
+good-ascending end p l h = refl
+good-ascending (rec n v r) p l h =
+    let g = good-parts n v r p l h in
+    and-i (before n r) (ascending r) (g .order) (good-ascending r p l (g .later))
+
+set-ascending-at : (n m : List ℕ) (v w : Value) (r : Records) (c d : Bool) → less n m ≡ c → less m n ≡ d → ascending (rec m w r) ≡ true → ascending (set r n v) ≡ true → ascending (set (rec m w r) n v) ≡ true
+unfolding ascending before
+set-ascending-at n m v w r true d a b h k = rw (set-below n m v w r a) (and-i (less n m) (before m r && ascending r) a h)
+set-ascending-at n m v w r false true a b h k = rw (set-past n m v w r a b) (and-i (before m (set r n v)) (ascending (set r n v)) (before-set m n v r b (and-l (before m r) (ascending r) h)) k)
+set-ascending-at n m v w r false false a b h k = rw (set-same n m v w r a b, less-same n m a b) h
+
+pub set-ascending : (r : Records) (n : List ℕ) (v : Value) → ascending r ≡ true → ascending (set r n v) ≡ true
+unfolding ascending set before
+set-ascending end n v h = refl
+set-ascending (rec m w r) n v h = set-ascending-at n m v w r (less n m) (less m n) refl refl h (set-ascending r n v (and-r (before m r) (ascending r) h))
 
 -- FOR CALLERS. s is a sheet, and at byte i a record begins, or it ends.
 pub record Mark (s : List ℕ) (i : ℕ) : Type 0 where
@@ -57,7 +76,7 @@ pub mark-of : {s : List ℕ} {i : ℕ} → Mark s i → {r : Records} → s ≡ 
 mark-of {s} {i} k {r} e g =
     let h = k .sheet in
     let q : h .r ≡ r = some-same (h .r) r (sym (decode-encode (h .r) word (h .good)) ∙ ap decode (sym (h .bytes) ∙ e) ∙ decode-encode r word g) in
-    record { bytes = e; between = rw q at (k .between); order = λ z. record { p = word; l = 6; good = g } }
+    record { bytes = e; between = rw q at (k .between); order = λ z. good-ascending r word 6 g }
 
 pub has-mark : {s : List ℕ} {i : ℕ} → Mark s i → HasMark s i
 has-mark k = record { r = k .sheet .r; marked = mark-of k (k .sheet .bytes) (k .sheet .good) }
@@ -95,30 +114,29 @@ there {s} {r} {i} k h = go (k .between .left) (k .between .tail)
 pub there-at : {s : List ℕ} {r : Records} {i : ℕ} → There s r i → At s i
 there-at {s} k = record { n = k .m; v = k .w; r = k .q; j = length s; part = k .part }
 
--- Of good records the first name stands before each later one.
-first-less : (n : List ℕ) (u : Value) (f : Records) (m : List ℕ) (w : Value) (q : Records) (p : ℕ → Bool) (l : ℕ) → goodRecords (rec n u (join f (rec m w q))) p l ≡ true → less n m ≡ true
-unfolding join before
-first-less n u end m w q p l h = good-parts n u (rec m w q) p l h .order
-first-less n u (rec k x f) m w q p l h =
-    let g = good-parts n u (join (rec k x f) (rec m w q)) p l h in
-    less-trans n k m (g .order) (first-less k x f m w q p l (g .later))
+-- The first name stands before each later one.
+first-less : (n : List ℕ) (u : Value) (f : Records) (m : List ℕ) (w : Value) (q : Records) → ascending (rec n u (join f (rec m w q))) ≡ true → less n m ≡ true
+unfolding join before ascending
+first-less n u end m w q h = and-l (less n m) (before m q && ascending q) h
+first-less n u (rec k x f) m w q h =
+    less-trans n k m (and-l (less n k) (ascending (rec k x (join f (rec m w q)))) h) (first-less k x f m w q (and-r (less n k) (ascending (rec k x (join f (rec m w q)))) h))
 
 -- A name that does not stand before that of a later record is bound there or behind it.
-pub set-later : (f : Records) (m : List ℕ) (w : Value) (q : Records) (p : ℕ → Bool) (l : ℕ) (name : List ℕ) (v : Value) → goodRecords (join f (rec m w q)) p l ≡ true → less name m ≡ false →
+pub set-later : (f : Records) (m : List ℕ) (w : Value) (q : Records) (name : List ℕ) (v : Value) → ascending (join f (rec m w q)) ≡ true → less name m ≡ false →
     set (join f (rec m w q)) name v ≡ join f (set (rec m w q) name v)
-unfolding join
-set-later end m w q p l name v h g = refl
-set-later (rec n u f) m w q p l name v h g =
-    let o : less n name ≡ true = less-up n m name (first-less n u f m w q p l h) g in
-    set-past name n v u (join f (rec m w q)) (less-asym n name o) o ∙ ap (rec n u) (set-later f m w q p l name v (good-parts n u (join f (rec m w q)) p l h .later) g)
+unfolding join ascending
+set-later end m w q name v h g = refl
+set-later (rec n u f) m w q name v h g =
+    let o : less n name ≡ true = less-up n m name (first-less n u f m w q h) g in
+    set-past name n v u (join f (rec m w q)) (less-asym n name o) o ∙ ap (rec n u) (set-later f m w q name v (and-r (before n (join f (rec m w q))) (ascending (join f (rec m w q))) h) g)
 
-module _ {s : List ℕ} {r : Records} {name : List ℕ} {i : ℕ} (o : Ascends r) (k : There s r i) {a b c : ℕ} (p : Part s a (k .m) b) (h : c ≡ orderOf (slice a b s) name) where
+module _ {s : List ℕ} {r : Records} {name : List ℕ} {i : ℕ} (o : ascending r ≡ true) (k : There s r i) {a b c : ℕ} (p : Part s a (k .m) b) (h : c ≡ orderOf (slice a b s) name) where
   pub place-there : (c ≡ 2 → ⊥) → Placing s r name i
   place-there z =
       let e : orderOf (k .m) name ≡ c = sym (h ∙ ap (λ y. orderOf y name) (part-slice p)) in
       let g : less name (k .m) ≡ false = order-less (k .m) name .1 ∙ ap (λ y. eqb y 2) e ∙ ne-eqb c 2 z in
       let t = k .tail in
-      let sets : (v : Value) → set r name v ≡ join (t .front) (set (rec (k .m) (k .w) (k .q)) name v) = λ v. ap (λ y. set y name v) (t .whole) ∙ set-later (t .front) (k .m) (k .w) (k .q) (o .p) (o .l) name v (rw (t .whole) at (o .good)) g in
+      let sets : (v : Value) → set r name v ≡ join (t .front) (set (rec (k .m) (k .w) (k .q)) name v) = λ v. ap (λ y. set y name v) (t .whole) ∙ set-later (t .front) (k .m) (k .w) (k .q) name v (rw (t .whole) at o) g in
       record {
         left = rec (k .m) (k .w) (k .q);
         part = k .part;

@@ -148,11 +148,11 @@ count-end {s} {r} {i} {k} c h = go (c .left) (c .part) (c .sum)
     go end p e = omega arith
     go (rec m w q) p e = absurd (omega (arith, p .ends))
 
-set-below : (n m : List ℕ) (v w : Value) (r : Records) → less n m ≡ true → set (rec m w r) n v ≡ rec n v (rec m w r)
+pub set-below : (n m : List ℕ) (v w : Value) (r : Records) → less n m ≡ true → set (rec m w r) n v ≡ rec n v (rec m w r)
 unfolding set
 set-below n m v w r h = rw (h, set) refl
 
-set-same : (n m : List ℕ) (v w : Value) (r : Records) → less n m ≡ false → less m n ≡ false → set (rec m w r) n v ≡ rec n v r
+pub set-same : (n m : List ℕ) (v w : Value) (r : Records) → less n m ≡ false → less m n ≡ false → set (rec m w r) n v ≡ rec n v r
 unfolding set
 set-same n m v w r h k = rw (h, k, set) refl
 

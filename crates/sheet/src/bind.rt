@@ -339,28 +339,36 @@ pub fn bind_value(
     o.bound
 }
 
-// Binds a name to a value with this bit and this number, whose own bytes stand in the same buffer, behind the limit.
+// Binds a name to a value with this bit and this number, whose own bytes stand in the same buffer, behind the limit. `last` as in
+// `bind_value_at`.
 pub fn bind_behind(
     buf: &mut [u8],
     n: usize,
+    last: usize,
     limit: usize,
     name: &[u8],
     bit: u8,
     size: usize,
     from: usize,
     to: usize,
-) -> Bound
-    requires { ⌜ Bindable (now buf) n limit × (limit ≤ from) × (from ≤ to) × (to ≤ length (now buf)) × HasSource bit size (slice from to (now buf)) ⌝ }
-    ensures { λ o. ⌜ Binds (now (buf .entry)) n limit (now (name .entry)) bit size (slice from to (now (buf .entry))) (now (buf .exit)) o ⌝ }
+) -> Put
+    requires { ⌜ Bindable (now buf) n limit × HasMark (take n (now buf)) last × (limit ≤ from) × (from ≤ to) × (to ≤ length (now buf)) × HasSource bit size (slice from to (now buf)) ⌝ }
+    ensures { λ o. ⌜ ((v : Value) → IsSource v bit size (slice from to (now (buf .entry))) → BindsAt (now (buf .entry)) n last limit (now (name .entry)) v (now (buf .exit)) o) ⌝ }
 {
     let len = to - from;
-    let Plan::Fits(p) = find_room(&buf[..n], 0, limit, name, false, bit, len) else {
-        return Bound::Over;
+    let Plan::Fits(p) = find_room(&buf[..n], last, limit, name, false, bit, len) else {
+        return Put {
+            bound: Bound::Over,
+            at: 0,
+        };
     };
     shift(buf, p.to, n, p.from + p.head + len);
     shift(buf, from, to, p.from + p.head);
     put_opening(buf, p.from, name, false, bit, size);
-    Bound::Length(p.total)
+    Put {
+        bound: Bound::Length(p.total),
+        at: p.from,
+    }
 }
 
 // Binds a name to a text.

@@ -21,9 +21,10 @@ use Rattle.scan.specs.Stretches.{spans-but}
 use Rattle.scan.specs.Paths.{tail-part}
 use Rattle.sheet.specs.Parts.{slice}
 use Rattle.sheet.specs.Find.{IsSheet}
-use Rattle.sheet.specs.Place.{one-some}
-use Rattle.sheet.specs.Write.{IsSource, HasSource, Bindable, BindsTo, Leaves, set-size}
-use Rattle.sheet.specs.declared.bind.Bound.{Bound}
+use Rattle.sheet.specs.Place.{one-some, Between, between-start}
+use Rattle.sheet.specs.Mark.{ascending, set-ascending, Marked, HasMark}
+use Rattle.sheet.specs.Write.{IsSource, HasSource, Bindable, BindsAt, Leaves, set-size}
+use Rattle.sheet.specs.declared.bind.Put.{Put}
 use Rattle.sheet.specs.declared.bind.Bound.the-variants.{Over, Length}
 use Rattle.values.specs.declared.Valued.{Valued}
 use Rattle.values.specs.Values.{Room, room-two, room-behind, lent-size, lent-first, Taken, ReadsValue, IsNone, Refused, Closes}
@@ -108,21 +109,23 @@ module _ (L : ℕ) (s d : Records) (k : List ℕ) (v : Value) where
   unfolding grown
   grown-fits h = rw (le-leb (valueLength (dictionary (set d k v))) L (omega (arith, dictionary-length (set d k v), set-some d k v)), grown) refl
 
--- The records d stand in the first n bytes of c, and the text up to i is read.
-pub record Growing (limit l : ℕ) (s : Records) (t : List ℕ) (at : ℕ) (c : List ℕ) (i n : ℕ) : Type 0 where
+-- The records d stand in the first n bytes of c, in order, one of them at `last`, and the text up to i is read.
+pub record Growing (limit l : ℕ) (s : Records) (t : List ℕ) (at : ℕ) (c : List ℕ) (i n last : ℕ) : Type 0 where
   pub d : Records
   pub bytes : take n c ≡ encode d
+  pub order : ascending d ≡ true
+  pub between : Between d last
   pub left : dictionaryValue limit s l (drop at t) ≡ rounds (entryRound limit s (dictionaryValue limit s (l - 1))) (λ d. accepted (dictionary d)) d (drop i t)
 
-pub record Entering (limit l : ℕ) (t : List ℕ) (at : ℕ) (z w c : List ℕ) (i n : ℕ) : Type 0 where
+pub record Entering (limit l : ℕ) (t : List ℕ) (at : ℕ) (z w c : List ℕ) (i n last : ℕ) : Type 0 where
   pub inside : i ≤ length t
   pub on : at ≤ i
   pub size : length c ≡ length w
   pub short : n ≤ limit - 3
-  pub growing : (s : IsSheet z) → Growing limit l (s .r) t at c i n
+  pub growing : (s : IsSheet z) → Growing limit l (s .r) t at c i n last
 
 -- The slot, and what lies behind it.
-module _ {limit l : ℕ} {t : List ℕ} {at : ℕ} {z w c : List ℕ} {i n : ℕ} (h : Room w limit l) (k : l ≡ 0 → ⊥) (E : Entering limit l t at z w c i n) where
+module _ {limit l : ℕ} {t : List ℕ} {at : ℕ} {z w c : List ℕ} {i n last : ℕ} (h : Room w limit l) (k : l ≡ 0 → ⊥) (E : Entering limit l t at z w c i n last) where
   pub entering-two : limit + limit ≤ length c
   entering-two = room-two c h k (E .size)
 
@@ -134,11 +137,11 @@ unfolding dictionaryValue
 dictionary-rounds limit zero s u h = absurd (h refl)
 dictionary-rounds limit (suc l) s u h = let e : suc l - 1 ≡ l = omega arith in rw e refl
 
-pub entering-start : {limit l : ℕ} {t : List ℕ} {at : ℕ} {z w : List ℕ} → (l ≡ 0 → ⊥) → at ≤ length t → Entering limit l t at z w w at 0
-unfolding encode
-entering-start {limit} {l} {t} {at} k h = record { inside = h; on = omega arith; size = refl; short = omega arith; growing = λ s. record { d = end; bytes = refl; left = dictionary-rounds limit l (s .r) (drop at t) k } }
+pub entering-start : {limit l : ℕ} {t : List ℕ} {at : ℕ} {z w : List ℕ} → (l ≡ 0 → ⊥) → at ≤ length t → Entering limit l t at z w w at 0 0
+unfolding encode ascending
+entering-start {limit} {l} {t} {at} k h = record { inside = h; on = omega arith; size = refl; short = omega arith; growing = λ s. record { d = end; bytes = refl; order = refl; between = between-start end; left = dictionary-rounds limit l (s .r) (drop at t) k } }
 
-module _ (limit l : ℕ) {t : List ℕ} {at : ℕ} {z w c : List ℕ} {i n : ℕ} (E : Entering limit l t at z w c i n) {j : ℕ} (X : Spans (either "," blank) t i j) {m : Bool} (M : Sees (but ")") t j m) where
+module _ (limit l : ℕ) {t : List ℕ} {at : ℕ} {z w c : List ℕ} {i n last : ℕ} (E : Entering limit l t at z w c i n last) {j : ℕ} (X : Spans (either "," blank) t i j) {m : Bool} (M : Sees (but ")") t j m) where
   pub entering-close : {r : Valued} → m ≡ false → n ≤ length c → Closes t j (take n c) r → ReadsValue limit (λ s. dictionaryValue limit s l) t at z w c r
   unfolding entryRound _>>=_ _>>_ ifR ret
   entering-close {r} e u C = record {
@@ -186,7 +189,7 @@ module _ (limit l : ℕ) {t : List ℕ} {at : ℕ} {z w c : List ℕ} {i n : ℕ
           rw x (ap (take (v .len)) (drop-at (take limit c) (o ++ drop (length c - limit) (drop limit c)) limit (length-take-le limit c (omega arith))) ∙ take-append-le (v .len) o (drop (length c - limit) (drop limit c)) h)
 
       module _ (s : IsSheet z) where
-        abbrev G : Growing limit l (s .r) t at c i n
+        abbrev G : Growing limit l (s .r) t at c i n last
         G = E .growing s
 
         abbrev round : Records → Reader (Turn Records (Answer Value))
@@ -221,6 +224,12 @@ module _ (limit l : ℕ) {t : List ℕ} {at : ℕ} {z w c : List ℕ} {i n : ℕ
         sheet = record { r = G s .d; bytes = after-records (omega (arith, E .short)) ∙ G s .bytes };
       }
 
+      marked : (s : IsSheet z) → Marked (take n after) (G s .d) last
+      marked s = record { bytes = after-records (omega (arith, E .short)) ∙ G s .bytes; between = G s .between; order = λ _. G s .order }
+
+      pub entry-mark : IsSheet z → HasMark (take n after) last
+      entry-mark s = record { r = G s .d; marked = marked s }
+
       pub entry-end : limit + v .len ≤ length after
       entry-end = omega (arith, U .fits, after-size)
 
@@ -238,17 +247,17 @@ module _ (limit l : ℕ) {t : List ℕ} {at : ℕ} {z w c : List ℕ} {i n : ℕ
       }
 
       -- The entry was bound, or is too long. s₀: there is a sheet.
-      module _ (s₀ : IsSheet z) (h : v .ok ≡ true) {room : ℕ} (u : room ≡ limit - 3) {b : List ℕ} {q : Bound} (B : (x : Value) → IsSource x (v .bit) (v .size) (slice limit (limit + v .len) after) → BindsTo after n room (part t j k) x b q) where
-        binds-to : (s : IsSheet z) → BindsTo after n (limit - 3) (part t j k) (T s h .v) b q
-        binds-to s = subst (λ x. BindsTo after n x (part t j k) (T s h .v) b q) u (B (T s h .v) (own-source s h))
+      module _ (s₀ : IsSheet z) (h : v .ok ≡ true) {room : ℕ} (u : room ≡ limit - 3) {b : List ℕ} {q : Put} (B : (x : Value) → IsSource x (v .bit) (v .size) (slice limit (limit + v .len) after) → BindsAt after n last room (part t j k) x b q) where
+        binds-at : (s : IsSheet z) → BindsAt after n last (limit - 3) (part t j k) (T s h .v) b q
+        binds-at s = subst (λ x. BindsAt after n last x (part t j k) (T s h .v) b q) u (B (T s h .v) (own-source s h))
 
-        leaves : (s : IsSheet z) → Leaves b (limit - 3) (encode (set (G s .d) (part t j k) (T s h .v))) q
-        leaves s = binds-to s .leaves (G s .d) (after-records (omega (arith, E .short)) ∙ G s .bytes)
+        leaves : (s : IsSheet z) → Leaves b (limit - 3) (encode (set (G s .d) (part t j k) (T s h .v))) (q .bound)
+        leaves s = binds-at s .leaves (G s .d) (marked s)
 
         pub bound-size : length b ≡ length w
-        bound-size = binds-to s₀ .long ∙ after-size ∙ E .size
+        bound-size = binds-at s₀ .long ∙ after-size ∙ E .size
 
-        pub entering-over : {r : Valued} → q ≡ Over → Refused 9 (v .at) r → ReadsValue limit (λ s. dictionaryValue limit s l) t at z w b r
+        pub entering-over : {r : Valued} → q .bound ≡ Over → Refused 9 (v .at) r → ReadsValue limit (λ s. dictionaryValue limit s l) t at z w b r
         unfolding Leaves
         entering-over g R = record {
           size = bound-size;
@@ -259,7 +268,7 @@ module _ (limit l : ℕ) {t : List ℕ} {at : ℕ} {z w c : List ℕ} {i n : ℕ
           stops = λ s y. stopped s (ap (λ x. x .0) (turned s h) ∙ grown-over limit (s .r) (G s .d) (part t j k) (T s h .v) (rw g at (leaves s))) ∙ ap refused (sym (R .says));
         }
 
-        module _ {p : ℕ} (g : q ≡ Length p) where
+        module _ {p : ℕ} (g : q .bound ≡ Length p) where
           fitted : (s : IsSheet z) → (p ≤ limit - 3) × (p ≡ length (encode (set (G s .d) (part t j k) (T s h .v)))) × (take p b ≡ encode (set (G s .d) (part t j k) (T s h .v)))
           unfolding Leaves
           fitted s = rw g at (leaves s)
@@ -267,7 +276,7 @@ module _ (limit l : ℕ) {t : List ℕ} {at : ℕ} {z w c : List ℕ} {i n : ℕ
           goes-on : (s : IsSheet z) → round s (G s .d) (drop i t) .0 ≡ again (set (G s .d) (part t j k) (T s h .v))
           goes-on s = ap (λ x. x .0) (turned s h) ∙ grown-fits limit (s .r) (G s .d) (part t j k) (T s h .v) (omega (arith, fitted s .0, fitted s .1))
 
-          pub entering-on : Entering limit l t at z w b (v .at) p
+          pub entering-on : Entering limit l t at z w b (v .at) p (q .at)
           entering-on = record {
             inside = U .inside;
             on = omega (arith, E .on, X .on, K .on, A .on, U .on);
@@ -276,6 +285,8 @@ module _ (limit l : ℕ) {t : List ℕ} {at : ℕ} {z w c : List ℕ} {i n : ℕ
             growing = λ s. record {
               d = set (G s .d) (part t j k) (T s h .v);
               bytes = fitted s .2;
+              order = set-ascending (G s .d) (part t j k) (T s h .v) (G s .order);
+              between = binds-at s .between (G s .d) (marked s);
               left = G s .left ∙ rounds-again (round s) (λ d. accepted (dictionary d)) (moving s) (G s .d) (set (G s .d) (part t j k) (T s h .v)) (drop i t) (goes-on s) ∙ ap (λ x. rounds (round s) (λ d. accepted (dictionary d)) (set (G s .d) (part t j k) (T s h .v)) (x .1)) (turned s h);
             };
           }

@@ -160,6 +160,7 @@ fn dictionary(
     let room = own_room(limit);
     let mut i = at;
     let mut n: usize = 0;
+    let mut last: usize = 0;
     loop {
         let j = scan::span(text, i, Set::CommaOrBlank);
         if !scan::sees(text, j, Set::NotParen) {
@@ -172,11 +173,23 @@ fn dictionary(
             return no_value(v.number, v.at);
         }
         let end = limit + v.len;
-        let bound = sheet::bind::bind_behind(work, n, room, &text[j..k], v.bit, v.size, limit, end);
+        let o = sheet::bind::bind_behind(
+            work,
+            n,
+            last,
+            room,
+            &text[j..k],
+            v.bit,
+            v.size,
+            limit,
+            end,
+        );
+        let bound = o.bound;
         match bound {
             Bound::Over => return no_value(9, v.at),
             Bound::Length(m) => n = m,
         }
+        last = o.at;
         i = v.at;
     }
 }

@@ -210,7 +210,8 @@ before-set-at m n k v w r true d p q h a = rw (p, set) h
 before-set-at m n k v w r false true p q h a = rw (p, q, set) a
 before-set-at m n k v w r false false p q h a = rw (p, q, set) h
 
-before-set : (m n : List ℕ) (v : Value) (r : Records) → less m n ≡ true → before m r ≡ true → before m (set r n v) ≡ true
+-- A name before the first of some records, and before one that is bound there, stands before the first afterwards.
+pub before-set : (m n : List ℕ) (v : Value) (r : Records) → less m n ≡ true → before m r ≡ true → before m (set r n v) ≡ true
 unfolding set before
 before-set m n v end h a = h
 before-set m n v (rec k w r) h a = before-set-at m n k v w r (less n k) (less k n) refl refl h a

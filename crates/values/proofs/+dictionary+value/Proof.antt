@@ -28,9 +28,8 @@ use lib.ListN.{length}
 use lib.Seq.{length-take-le}
 use borrow.Author.Tests.{not-true, not-false}
 use Rattle.scan.specs.Paths.{tail-part}
-use Rattle.sheet.specs.Write.{Binds}
 use Rattle.values.specs.Values.{slot-le, room-text}
-use Rattle.values.specs.Dictionary.{value-quote, value-open, value-none, value-name, value-other, dictionary-seven, Entering, entering-start, entering-two, entering-behind, entering-close, after-size, after-records, entry-bindable, entry-end, entry-source, entering-no, bound-size, entering-over, entering-on, entering-moves}
+use Rattle.values.specs.Dictionary.{value-quote, value-open, value-none, value-name, value-other, dictionary-seven, Entering, entering-start, entering-two, entering-behind, entering-close, after-size, after-records, entry-bindable, entry-mark, entry-end, entry-source, entering-no, bound-size, entering-over, entering-on, entering-moves}
 
 abbrev μ-dictionary : Measures 3 dictionary-kinds.ps ℕ
 μ-dictionary κs a = 2 * a .1 .1 .1 .1 .1 .0
@@ -53,10 +52,10 @@ abbrev value-below : ℕ → In 3 value-kinds.ps
 value-below t = and 3 value-kinds.ps (falls 3 value-kinds.ps _<_ μ-value t) value.Pre
 
 abbrev dictionary-Inv-loop : dictionary-lts.InvT-loop
-dictionary-Inv-loop text at sheet work₀ limit levels room i₀ n₀ work i n = Entering limit levels text at sheet work₀ work i n
+dictionary-Inv-loop text at sheet work₀ limit levels room i₀ n₀ last₀ work i n last = Entering limit levels text at sheet work₀ work i n last
 
 abbrev dictionary-μ-loop : dictionary-lts.MeasureT-loop
-dictionary-μ-loop text at sheet work₀ limit levels room i₀ n₀ work i n = length text - i
+dictionary-μ-loop text at sheet work₀ limit levels room i₀ n₀ last₀ work i n last = length text - i
 
 dictionary-no-value-requires : (t : ℕ) → dictionary-lts.Need-no-value-requires (
   no-value-reads.Asked,
@@ -526,7 +525,7 @@ dictionary-bind-behind-requires : (t : ℕ) → dictionary-lts.Need-bind-behind-
   bind-behind-reads.Asked,
   bind-behind-reads.Learnt,
 ) (dictionary-at t) dictionary.Post dictionary-Inv-loop dictionary-μ-loop
-dictionary-bind-behind-requires t c κs = (entry-bindable _ _ (c .before .before .before .before .before .before .before .before .before .before .before .before .before .before .loop .inv) (c .before .before .before .before .before .before .before .before .before .before .before .before .before .span .ensures) (c .before .before .before .before .before .before .before .before .before .before .before .before .sees .ensures) (not-false _ (c .before .before .before .before .before .before .before .before .before .before .before .if2 .left)) (c .before .before .before .before .before .before .before .before .before .before .span2 .ensures) (c .before .before .before .before .before .before .before .before .before .span3 .ensures) (entering-two (c .before .before .before .before .before .before .before .before .before .before .before .before .before .before .before .before .before .before .before .before .pre .1 .1) (c .before .before .before .before .before .before .before .before .before .before .before .before .before .before .before .before .if1 .left) (c .before .before .before .before .before .before .before .before .before .before .before .before .before .before .loop .inv)) (c .before .before .before .before .before .before .before .value .ensures) (c .before .before .before .before .before .before .before .before .before .before .before .before .before .before .before .before .before .before .before .before .pre .1 .2) (c .before .before .before .before .before .before .before .before .before .before .before .before .before .before .before .own-room .ensures) (c .before .before .before .before .before .before .before .before .before .before .before .before .before .before .before .before .before .before .before .before .pre .1 .1 .most), omega (arith, c .before .before .before .before .before .before .before .before .before .before .before .before .before .before .before .own-room .ensures), omega arith, entry-end _ _ (c .before .before .before .before .before .before .before .before .before .before .before .before .before .before .loop .inv) (c .before .before .before .before .before .before .before .before .before .before .before .before .before .span .ensures) (c .before .before .before .before .before .before .before .before .before .before .before .before .sees .ensures) (not-false _ (c .before .before .before .before .before .before .before .before .before .before .before .if2 .left)) (c .before .before .before .before .before .before .before .before .before .before .span2 .ensures) (c .before .before .before .before .before .before .before .before .before .span3 .ensures) (entering-two (c .before .before .before .before .before .before .before .before .before .before .before .before .before .before .before .before .before .before .before .before .pre .1 .1) (c .before .before .before .before .before .before .before .before .before .before .before .before .before .before .before .before .if1 .left) (c .before .before .before .before .before .before .before .before .before .before .before .before .before .before .loop .inv)) (c .before .before .before .before .before .before .before .value .ensures), entry-source _ _ (c .before .before .before .before .before .before .before .before .before .before .before .before .before .before .loop .inv) (c .before .before .before .before .before .before .before .before .before .before .before .before .before .span .ensures) (c .before .before .before .before .before .before .before .before .before .before .before .before .sees .ensures) (not-false _ (c .before .before .before .before .before .before .before .before .before .before .before .if2 .left)) (c .before .before .before .before .before .before .before .before .before .before .span2 .ensures) (c .before .before .before .before .before .before .before .before .before .span3 .ensures) (entering-two (c .before .before .before .before .before .before .before .before .before .before .before .before .before .before .before .before .before .before .before .before .pre .1 .1) (c .before .before .before .before .before .before .before .before .before .before .before .before .before .before .before .before .if1 .left) (c .before .before .before .before .before .before .before .before .before .before .before .before .before .before .loop .inv)) (c .before .before .before .before .before .before .before .value .ensures) (c .before .before .before .before .before .before .before .before .before .before .before .before .before .before .before .before .before .before .before .before .pre .1 .2) (not-false _ (c .before .before .before .if3 .left)))
+dictionary-bind-behind-requires t c κs = (entry-bindable _ _ (c .before .before .before .before .before .before .before .before .before .before .before .before .before .before .loop .inv) (c .before .before .before .before .before .before .before .before .before .before .before .before .before .span .ensures) (c .before .before .before .before .before .before .before .before .before .before .before .before .sees .ensures) (not-false _ (c .before .before .before .before .before .before .before .before .before .before .before .if2 .left)) (c .before .before .before .before .before .before .before .before .before .before .span2 .ensures) (c .before .before .before .before .before .before .before .before .before .span3 .ensures) (entering-two (c .before .before .before .before .before .before .before .before .before .before .before .before .before .before .before .before .before .before .before .before .pre .1 .1) (c .before .before .before .before .before .before .before .before .before .before .before .before .before .before .before .before .if1 .left) (c .before .before .before .before .before .before .before .before .before .before .before .before .before .before .loop .inv)) (c .before .before .before .before .before .before .before .value .ensures) (c .before .before .before .before .before .before .before .before .before .before .before .before .before .before .before .before .before .before .before .before .pre .1 .2) (c .before .before .before .before .before .before .before .before .before .before .before .before .before .before .before .own-room .ensures) (c .before .before .before .before .before .before .before .before .before .before .before .before .before .before .before .before .before .before .before .before .pre .1 .1 .most), entry-mark _ _ (c .before .before .before .before .before .before .before .before .before .before .before .before .before .before .loop .inv) (c .before .before .before .before .before .before .before .before .before .before .before .before .before .span .ensures) (c .before .before .before .before .before .before .before .before .before .before .before .before .sees .ensures) (not-false _ (c .before .before .before .before .before .before .before .before .before .before .before .if2 .left)) (c .before .before .before .before .before .before .before .before .before .before .span2 .ensures) (c .before .before .before .before .before .before .before .before .before .span3 .ensures) (entering-two (c .before .before .before .before .before .before .before .before .before .before .before .before .before .before .before .before .before .before .before .before .pre .1 .1) (c .before .before .before .before .before .before .before .before .before .before .before .before .before .before .before .before .if1 .left) (c .before .before .before .before .before .before .before .before .before .before .before .before .before .before .loop .inv)) (c .before .before .before .before .before .before .before .value .ensures) (c .before .before .before .before .before .before .before .before .before .before .before .before .before .before .before .before .before .before .before .before .pre .1 .2), omega (arith, c .before .before .before .before .before .before .before .before .before .before .before .before .before .before .before .own-room .ensures), omega arith, entry-end _ _ (c .before .before .before .before .before .before .before .before .before .before .before .before .before .before .loop .inv) (c .before .before .before .before .before .before .before .before .before .before .before .before .before .span .ensures) (c .before .before .before .before .before .before .before .before .before .before .before .before .sees .ensures) (not-false _ (c .before .before .before .before .before .before .before .before .before .before .before .if2 .left)) (c .before .before .before .before .before .before .before .before .before .before .span2 .ensures) (c .before .before .before .before .before .before .before .before .before .span3 .ensures) (entering-two (c .before .before .before .before .before .before .before .before .before .before .before .before .before .before .before .before .before .before .before .before .pre .1 .1) (c .before .before .before .before .before .before .before .before .before .before .before .before .before .before .before .before .if1 .left) (c .before .before .before .before .before .before .before .before .before .before .before .before .before .before .loop .inv)) (c .before .before .before .before .before .before .before .value .ensures), entry-source _ _ (c .before .before .before .before .before .before .before .before .before .before .before .before .before .before .loop .inv) (c .before .before .before .before .before .before .before .before .before .before .before .before .before .span .ensures) (c .before .before .before .before .before .before .before .before .before .before .before .before .sees .ensures) (not-false _ (c .before .before .before .before .before .before .before .before .before .before .before .if2 .left)) (c .before .before .before .before .before .before .before .before .before .before .span2 .ensures) (c .before .before .before .before .before .before .before .before .before .span3 .ensures) (entering-two (c .before .before .before .before .before .before .before .before .before .before .before .before .before .before .before .before .before .before .before .before .pre .1 .1) (c .before .before .before .before .before .before .before .before .before .before .before .before .before .before .before .before .if1 .left) (c .before .before .before .before .before .before .before .before .before .before .before .before .before .before .loop .inv)) (c .before .before .before .before .before .before .before .value .ensures) (c .before .before .before .before .before .before .before .before .before .before .before .before .before .before .before .before .before .before .before .before .pre .1 .2) (not-false _ (c .before .before .before .if3 .left)))
 
 dictionary-enum-told : (t : ℕ) → dictionary-lts.Need-enum-told (
   no-value-reads.Asked,
@@ -580,7 +579,6 @@ dictionary-same-length-3 : (t : ℕ) → dictionary-lts.Need-same-length-3 (
   bind-behind-reads.Asked,
   bind-behind-reads.Learnt,
 ) (dictionary-at t) dictionary.Post dictionary-Inv-loop dictionary-μ-loop
-unfolding Binds
 dictionary-same-length-3 t c = bound-size _ _ (c .before .before .before .before .before .before .before .before .before .before .before .before .before .before .before .before .before .before .before .before .loop .inv) (c .before .before .before .before .before .before .before .before .before .before .before .before .before .before .before .before .before .before .before .span .ensures) (c .before .before .before .before .before .before .before .before .before .before .before .before .before .before .before .before .before .before .sees .ensures) (not-false _ (c .before .before .before .before .before .before .before .before .before .before .before .before .before .before .before .before .before .if2 .left)) (c .before .before .before .before .before .before .before .before .before .before .before .before .before .before .before .before .span2 .ensures) (c .before .before .before .before .before .before .before .before .before .before .before .before .before .before .before .span3 .ensures) (entering-two (c .before .before .before .before .before .before .before .before .before .before .before .before .before .before .before .before .before .before .before .before .before .before .before .before .before .before .pre .1 .1) (c .before .before .before .before .before .before .before .before .before .before .before .before .before .before .before .before .before .before .before .before .before .before .if1 .left) (c .before .before .before .before .before .before .before .before .before .before .before .before .before .before .before .before .before .before .before .before .loop .inv)) (c .before .before .before .before .before .before .before .before .before .before .before .before .before .value .ensures) (c .before .before .before .before .before .before .before .before .before .before .before .before .before .before .before .before .before .before .before .before .before .before .before .before .before .before .pre .1 .2) (not-false _ (c .before .before .before .before .before .before .before .before .before .if3 .left)) (c .before .before .before .before .before .before .before .before .before .before .before .before .before .before .before .before .before .before .before .before .before .own-room .ensures) (c .before .before .before .before .before .bind-behind .ensures)
 
 dictionary-returns-4 : (t : ℕ) → dictionary-lts.Need-returns-4 (
@@ -599,7 +597,6 @@ dictionary-returns-4 : (t : ℕ) → dictionary-lts.Need-returns-4 (
   bind-behind-reads.Asked,
   bind-behind-reads.Learnt,
 ) (dictionary-at t) dictionary.Post dictionary-Inv-loop dictionary-μ-loop
-unfolding Binds
 dictionary-returns-4 t c = entering-over _ _ (c .before .before .before .before .before .before .before .before .before .before .before .before .before .before .before .before .before .before .before .before .loop .inv) (c .before .before .before .before .before .before .before .before .before .before .before .before .before .before .before .before .before .before .before .span .ensures) (c .before .before .before .before .before .before .before .before .before .before .before .before .before .before .before .before .before .before .sees .ensures) (not-false _ (c .before .before .before .before .before .before .before .before .before .before .before .before .before .before .before .before .before .if2 .left)) (c .before .before .before .before .before .before .before .before .before .before .before .before .before .before .before .before .span2 .ensures) (c .before .before .before .before .before .before .before .before .before .before .before .before .before .before .before .span3 .ensures) (entering-two (c .before .before .before .before .before .before .before .before .before .before .before .before .before .before .before .before .before .before .before .before .before .before .before .before .before .before .pre .1 .1) (c .before .before .before .before .before .before .before .before .before .before .before .before .before .before .before .before .before .before .before .before .before .before .if1 .left) (c .before .before .before .before .before .before .before .before .before .before .before .before .before .before .before .before .before .before .before .before .loop .inv)) (c .before .before .before .before .before .before .before .before .before .before .before .before .before .value .ensures) (c .before .before .before .before .before .before .before .before .before .before .before .before .before .before .before .before .before .before .before .before .before .before .before .before .before .before .pre .1 .2) (not-false _ (c .before .before .before .before .before .before .before .before .before .if3 .left)) (c .before .before .before .before .before .before .before .before .before .before .before .before .before .before .before .before .before .before .before .before .before .own-room .ensures) (c .before .before .before .before .before .bind-behind .ensures) (c .before .enum-told .given .1) (c .no-value3 .ensures)
 
 dictionary-enum-known-bound : (t : ℕ) → dictionary-lts.Need-enum-known-bound (
@@ -636,7 +633,6 @@ dictionary-loop-less : (t : ℕ) → dictionary-lts.Need-loop-less (
   bind-behind-reads.Asked,
   bind-behind-reads.Learnt,
 ) (dictionary-at t) dictionary.Post dictionary-Inv-loop dictionary-μ-loop
-unfolding Binds
 dictionary-loop-less t c =
     let h = entering-moves _ _ (c .before .before .before .before .before .before .before .before .before .before .before .before .before .before .before .before .before .before .before .before .loop .inv) (c .before .before .before .before .before .before .before .before .before .before .before .before .before .before .before .before .before .before .before .span .ensures) (c .before .before .before .before .before .before .before .before .before .before .before .before .before .before .before .before .before .before .sees .ensures) (not-false _ (c .before .before .before .before .before .before .before .before .before .before .before .before .before .before .before .before .before .if2 .left)) (c .before .before .before .before .before .before .before .before .before .before .before .before .before .before .before .before .span2 .ensures) (c .before .before .before .before .before .before .before .before .before .before .before .before .before .before .before .span3 .ensures) (entering-two (c .before .before .before .before .before .before .before .before .before .before .before .before .before .before .before .before .before .before .before .before .before .before .before .before .before .before .pre .1 .1) (c .before .before .before .before .before .before .before .before .before .before .before .before .before .before .before .before .before .before .before .before .before .before .if1 .left) (c .before .before .before .before .before .before .before .before .before .before .before .before .before .before .before .before .before .before .before .before .loop .inv)) (c .before .before .before .before .before .before .before .before .before .before .before .before .before .value .ensures) (c .before .before .before .before .before .before .before .before .before .before .before .before .before .before .before .before .before .before .before .before .before .before .before .before .before .before .pre .1 .2) (not-false _ (c .before .before .before .before .before .before .before .before .before .if3 .left)) (c .before .before .before .before .before .before .before .before .before .before .before .before .before .before .before .before .before .before .before .before .before .own-room .ensures) (c .before .before .before .before .before .bind-behind .ensures) (c .before .bound .given .1) in
     omega (arith, h, c .before .before .before .before .before .before .before .before .before .before .before .before .before .value .ensures .inside)
@@ -657,7 +653,6 @@ dictionary-loop-again : (t : ℕ) → dictionary-lts.Need-loop-again (
   bind-behind-reads.Asked,
   bind-behind-reads.Learnt,
 ) (dictionary-at t) dictionary.Post dictionary-Inv-loop dictionary-μ-loop
-unfolding Binds
 dictionary-loop-again t c = entering-on _ _ (c .before .before .before .before .before .before .before .before .before .before .before .before .before .before .before .before .before .before .before .before .loop .inv) (c .before .before .before .before .before .before .before .before .before .before .before .before .before .before .before .before .before .before .before .span .ensures) (c .before .before .before .before .before .before .before .before .before .before .before .before .before .before .before .before .before .before .sees .ensures) (not-false _ (c .before .before .before .before .before .before .before .before .before .before .before .before .before .before .before .before .before .if2 .left)) (c .before .before .before .before .before .before .before .before .before .before .before .before .before .before .before .before .span2 .ensures) (c .before .before .before .before .before .before .before .before .before .before .before .before .before .before .before .span3 .ensures) (entering-two (c .before .before .before .before .before .before .before .before .before .before .before .before .before .before .before .before .before .before .before .before .before .before .before .before .before .before .pre .1 .1) (c .before .before .before .before .before .before .before .before .before .before .before .before .before .before .before .before .before .before .before .before .before .before .if1 .left) (c .before .before .before .before .before .before .before .before .before .before .before .before .before .before .before .before .before .before .before .before .loop .inv)) (c .before .before .before .before .before .before .before .before .before .before .before .before .before .value .ensures) (c .before .before .before .before .before .before .before .before .before .before .before .before .before .before .before .before .before .before .before .before .before .before .before .before .before .before .pre .1 .2) (not-false _ (c .before .before .before .before .before .before .before .before .before .if3 .left)) (c .before .before .before .before .before .before .before .before .before .before .before .before .before .before .before .before .before .before .before .before .before .own-room .ensures) (c .before .before .before .before .before .bind-behind .ensures) (c .before .bound .given .1)
 
 value-span-requires : (t : ℕ) → value-lts.Need-span-requires (

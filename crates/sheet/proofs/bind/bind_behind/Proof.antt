@@ -13,8 +13,7 @@ use native.Mathlib.Omega.{arith}
 use lib.Seq.{length-sets, length-take-le}
 use Rattle.sheet.specs.Order.{asked}
 use Rattle.sheet.specs.Parts.{length-slice}
-use Rattle.sheet.specs.Mark.{has-start}
-use Rattle.sheet.specs.Write.{binds-start, Binds, bound-over, bound-behind, fit-bounds, opens-there}
+use Rattle.sheet.specs.Write.{bound-over, bound-behind, fit-bounds, opens-there}
 
 sub-len : tie.Need-sub-len
 sub-len c = search needs
@@ -26,7 +25,7 @@ slice-aggregate-find-room : tie.Need-slice-aggregate-find-room
 slice-aggregate-find-room c = sym (length-take-le (c .before .before .before .args .n) (c .before .before .before .args .buf .now) (c .before .before .before .pre .0 .inside))
 
 find-room-requires : tie.Need-find-room-requires
-find-room-requires c κs = (has-start (c .before .before .before .pre .0 .sheet), c .before .before .before .pre .0 .small, record { v = c .before .before .before .pre .4 .v; is = c .before .before .before .pre .4 .is .sort })
+find-room-requires c κs = (c .before .before .before .pre .1, c .before .before .before .pre .0 .small, record { v = c .before .before .before .pre .5 .v; is = c .before .before .before .pre .5 .is .sort })
 
 enum-known-p : tie.Need-enum-known-p
 enum-known-p c = search needs
@@ -38,44 +37,44 @@ same-length : tie.Need-same-length
 same-length c = search needs
 
 returns : tie.Need-returns
-unfolding Binds asked
-returns c = λ v w. binds-start (bound-over (c .before .before .before .before .before .before .pre .0) (has-start (c .before .before .before .before .before .before .pre .0 .sheet)) false _ _ _ (c .before .before .find-room .ensures) (c .enum-told .given .1) (length-slice _ _ _ (c .before .before .before .before .before .before .pre .3)) v w)
+unfolding asked
+returns c = λ v w. bound-over (c .before .before .before .before .before .before .pre .0) (c .before .before .before .before .before .before .pre .1) false _ _ _ (c .before .before .find-room .ensures) (c .enum-told .given .1) (length-slice _ _ _ (c .before .before .before .before .before .before .pre .4)) v w
 
 add-shift : tie.Need-add-shift
 add-shift c =
-    let o = fit-bounds (c .before .before .before .before .before .before .before .before .before .pre .0) (has-start (c .before .before .before .before .before .before .before .before .before .pre .0 .sheet)) _ _ _ _ (c .before .before .before .before .before .find-room .ensures) (c .before .before .before .p .given .1) in
+    let o = fit-bounds (c .before .before .before .before .before .before .before .before .before .pre .0) (c .before .before .before .before .before .before .before .before .before .pre .1) _ _ _ _ (c .before .before .before .before .before .find-room .ensures) (c .before .before .before .p .given .1) in
     omega (arith, o .on, o .inside, o .sum, o .small, o .head, o .short, o .own, c .before .before .before .before .before .before .before .before .before .pre .0 .small)
 
 add-shift-2 : tie.Need-add-shift-2
 add-shift-2 c =
-    let o = fit-bounds (c .before .before .before .before .before .before .before .before .before .pre .0) (has-start (c .before .before .before .before .before .before .before .before .before .pre .0 .sheet)) _ _ _ _ (c .before .before .before .before .before .find-room .ensures) (c .before .before .before .p .given .1) in
+    let o = fit-bounds (c .before .before .before .before .before .before .before .before .before .pre .0) (c .before .before .before .before .before .before .before .before .before .pre .1) _ _ _ _ (c .before .before .before .before .before .find-room .ensures) (c .before .before .before .p .given .1) in
     omega (arith, o .on, o .inside, o .sum, o .small, o .head, o .short, o .own, c .before .before .before .before .before .before .before .before .before .pre .0 .small)
 
 shift-requires : tie.Need-shift-requires
 shift-requires c κs =
-    let o = fit-bounds (c .before .before .before .before .before .before .before .before .before .pre .0) (has-start (c .before .before .before .before .before .before .before .before .before .pre .0 .sheet)) _ _ _ _ (c .before .before .before .before .before .find-room .ensures) (c .before .before .before .p .given .1) in
+    let o = fit-bounds (c .before .before .before .before .before .before .before .before .before .pre .0) (c .before .before .before .before .before .before .before .before .before .pre .1) _ _ _ _ (c .before .before .before .before .before .find-room .ensures) (c .before .before .before .p .given .1) in
     (o .inside, c .before .before .before .before .before .before .before .before .before .pre .0 .inside, omega (arith, o .sum, c .before .before .before .before .before .before .before .before .before .pre .0 .room))
 
 add-shift-3 : tie.Need-add-shift-3
 add-shift-3 c =
-    let o = fit-bounds (c .before .before .before .before .before .before .before .before .before .before .before .before .before .before .pre .0) (has-start (c .before .before .before .before .before .before .before .before .before .before .before .before .before .before .pre .0 .sheet)) _ _ _ _ (c .before .before .before .before .before .before .before .before .before .before .find-room .ensures) (c .before .before .before .before .before .before .before .before .p .given .1) in
+    let o = fit-bounds (c .before .before .before .before .before .before .before .before .before .before .before .before .before .before .pre .0) (c .before .before .before .before .before .before .before .before .before .before .before .before .before .before .pre .1) _ _ _ _ (c .before .before .before .before .before .before .before .before .before .before .find-room .ensures) (c .before .before .before .before .before .before .before .before .p .given .1) in
     omega (arith, o .on, o .inside, o .sum, o .small, o .head, o .short, o .own, c .before .before .before .before .before .before .before .before .before .before .before .before .before .before .pre .0 .small)
 
 shift-requires-2 : tie.Need-shift-requires-2
 shift-requires-2 c κs =
-    let o = fit-bounds (c .before .before .before .before .before .before .before .before .before .before .before .before .before .before .pre .0) (has-start (c .before .before .before .before .before .before .before .before .before .before .before .before .before .before .pre .0 .sheet)) _ _ _ _ (c .before .before .before .before .before .before .before .before .before .before .find-room .ensures) (c .before .before .before .before .before .before .before .before .p .given .1) in
+    let o = fit-bounds (c .before .before .before .before .before .before .before .before .before .before .before .before .before .before .pre .0) (c .before .before .before .before .before .before .before .before .before .before .before .before .before .before .pre .1) _ _ _ _ (c .before .before .before .before .before .before .before .before .before .before .find-room .ensures) (c .before .before .before .before .before .before .before .before .p .given .1) in
     let l = simp length-sets at (ap length (c .before .before .before .before .shift .ensures)) in
-    (c .before .before .before .before .before .before .before .before .before .before .before .before .before .before .pre .2, omega (arith, l, c .before .before .before .before .before .before .before .before .before .before .before .before .before .before .pre .3), omega (arith, l, o .sum, o .on, o .inside, c .before .before .before .before .before .before .before .before .before .before .before .before .before .before .pre .0 .room))
+    (c .before .before .before .before .before .before .before .before .before .before .before .before .before .before .pre .3, omega (arith, l, c .before .before .before .before .before .before .before .before .before .before .before .before .before .before .pre .4), omega (arith, l, o .sum, o .on, o .inside, c .before .before .before .before .before .before .before .before .before .before .before .before .before .before .pre .0 .room))
 
 put-opening-requires : tie.Need-put-opening-requires
-put-opening-requires c κs = opens-there (c .before .before .before .before .before .before .before .before .before .before .before .before .before .before .before .before .before .before .pre .0) (has-start (c .before .before .before .before .before .before .before .before .before .before .before .before .before .before .before .before .before .before .pre .0 .sheet)) _ _ _ _ (c .before .before .before .before .before .before .before .before .before .before .before .before .before .before .find-room .ensures) (c .before .before .before .before .before .before .before .before .before .before .before .before .p .given .1) (simp length-sets at (ap length (c .before .before .before .shift2 .ensures)) ∙ simp length-sets at (ap length (c .before .before .before .before .before .before .before .before .shift .ensures))) (c .before .before .before .before .before .before .before .before .before .before .before .before .before .before .before .before .before .before .pre .4 .is) (length-slice _ _ _ (c .before .before .before .before .before .before .before .before .before .before .before .before .before .before .before .before .before .before .pre .3))
+put-opening-requires c κs = opens-there (c .before .before .before .before .before .before .before .before .before .before .before .before .before .before .before .before .before .before .pre .0) (c .before .before .before .before .before .before .before .before .before .before .before .before .before .before .before .before .before .before .pre .1) _ _ _ _ (c .before .before .before .before .before .before .before .before .before .before .before .before .before .before .find-room .ensures) (c .before .before .before .before .before .before .before .before .before .before .before .before .p .given .1) (simp length-sets at (ap length (c .before .before .before .shift2 .ensures)) ∙ simp length-sets at (ap length (c .before .before .before .before .before .before .before .before .shift .ensures))) (c .before .before .before .before .before .before .before .before .before .before .before .before .before .before .before .before .before .before .pre .5 .is) (length-slice _ _ _ (c .before .before .before .before .before .before .before .before .before .before .before .before .before .before .before .before .before .before .pre .4))
 
 same-length-2 : tie.Need-same-length-2
 same-length-2 c = search needs
 
 returns-2 : tie.Need-returns-2
-unfolding Binds asked
-returns-2 c = λ v w. binds-start (bound-behind (c .before .before .before .before .before .before .before .before .before .before .before .before .before .before .before .before .before .before .before .before .before .pre .0) (has-start (c .before .before .before .before .before .before .before .before .before .before .before .before .before .before .before .before .before .before .before .before .before .pre .0 .sheet)) false _ _ _ (c .before .before .before .before .before .before .before .before .before .before .before .before .before .before .before .before .before .find-room .ensures) (c .before .before .before .before .before .before .before .before .before .before .before .before .before .before .before .p .given .1) _ _ _ (c .before .before .before .before .before .before .before .before .before .before .before .before .before .before .before .before .before .before .before .before .before .pre .1) (c .before .before .before .before .before .before .before .before .before .before .before .before .before .before .before .before .before .before .before .before .before .pre .2) (c .before .before .before .before .before .before .before .before .before .before .before .before .before .before .before .before .before .before .before .before .before .pre .3) refl v w (c .before .before .before .before .before .before .before .before .before .before .before .shift .ensures) (c .before .before .before .before .before .before .shift2 .ensures) (c .before .before .put-opening .ensures))
+unfolding asked
+returns-2 c = λ v w. bound-behind (c .before .before .before .before .before .before .before .before .before .before .before .before .before .before .before .before .before .before .before .before .before .pre .0) (c .before .before .before .before .before .before .before .before .before .before .before .before .before .before .before .before .before .before .before .before .before .pre .1) false _ _ _ (c .before .before .before .before .before .before .before .before .before .before .before .before .before .before .before .before .before .find-room .ensures) (c .before .before .before .before .before .before .before .before .before .before .before .before .before .before .before .p .given .1) _ _ _ (c .before .before .before .before .before .before .before .before .before .before .before .before .before .before .before .before .before .before .before .before .before .pre .2) (c .before .before .before .before .before .before .before .before .before .before .before .before .before .before .before .before .before .before .before .before .before .pre .3) (c .before .before .before .before .before .before .before .before .before .before .before .before .before .before .before .before .before .before .before .before .before .pre .4) refl v w (c .before .before .before .before .before .before .before .before .before .before .before .shift .ensures) (c .before .before .before .before .before .before .shift2 .ensures) (c .before .before .put-opening .ensures)
 
 pub bind-behind-spec : {M : Type 1} → statement M
 bind-behind-spec =
