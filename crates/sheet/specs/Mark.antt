@@ -1,9 +1,9 @@
 -- A place of a sheet from which a name may be searched for.
 use mathlib.Core.Path.{_≡_, refl, sym, ap, _∙_}
 use mathlib.Core.Bool.{Bool, true, false, _&&_}
-use mathlib.Core.List.{List, [], _∷_, _++_, append-nil}
-use mathlib.Core.Option.{Option, some}
-use Prim.Native.Nat.{ℕ, zero, suc, _+_, _≤_, _<_}
+use mathlib.Core.List.{List, [], _++_, append-nil}
+use mathlib.Core.Option.{some}
+use Prim.Native.Nat.{ℕ, _+_, _<_}
 use native.Mathlib.Omega.{arith}
 use lib.Dec.{eqb}
 use lib.ListN.{length, take, drop, length-append, drop-of-length-le}
@@ -13,7 +13,7 @@ use Rattle.rules.specs.Bytes.{word, less}
 use Rattle.rules.specs.Sheet.{Value, Records, end, rec, encode, goodRecords, decode, set, before}
 use Rattle.rules.specs.Laws.Bool.{and-i, and-l, and-r}
 use Rattle.rules.specs.Laws.Sheet.{less-trans, less-same, less-asym, less-up, good-parts, before-set, decode-encode}
-use Rattle.sheet.specs.Parts.{Part, slice, part-slice, part-of}
+use Rattle.sheet.specs.Parts.{Part, slice, part-slice}
 use Rattle.sheet.specs.Items.{At, join, encode-join}
 use Rattle.sheet.specs.Order.{orderOf, order-less}
 use Rattle.sheet.specs.Find.{IsSheet}

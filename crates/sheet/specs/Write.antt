@@ -24,7 +24,7 @@ use Rattle.sheet.specs.Moves.{slice-take, slice-above, take-stored}
 use Rattle.sheet.specs.Order.{made, asked, asked-length, asked-getD}
 use Rattle.sheet.specs.Find.{Gives}
 use Rattle.sheet.specs.Place.{HasRecords, Between, between-start, Placed, one, one-rec}
-use Rattle.sheet.specs.Mark.{Marked, HasMark, marked-start, has-start}
+use Rattle.sheet.specs.Mark.{Marked, HasMark, marked-start}
 use Rattle.sheet.specs.declared.bind.Bound.{Bound}
 use Rattle.sheet.specs.declared.bind.Bound.the-variants.{Over, Length}
 use Rattle.sheet.specs.declared.bind.Put.{Put}
