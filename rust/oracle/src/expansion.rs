@@ -6,9 +6,11 @@
 use crate::bundle::{Files, Found, find};
 use crate::layout::{is_path, is_sheet, is_text};
 use crate::sheet::{Tree, Value, decode};
+use crate::text::{Text, is_blank, is_letter, is_line_blank, is_name, is_run, is_word, look, resolve, trimmed};
+use crate::text::{underscored, without_last_blanks};
 
 /// A longer buffer for the sheet counts as this long.
-const LONGEST_SHEET: usize = 65_535;
+pub const LONGEST_SHEET: usize = 65_535;
 
 /// What the call must answer.
 #[derive(Clone, Debug, PartialEq, Eq)]
@@ -49,6 +51,8 @@ pub struct Seen {
     /// Marks `#raw` and `#link` that were copied: without `(`, and handed back.
     pub bare: usize,
     pub handed_back: usize,
+    /// Calls that were handed back at the end of the text.
+    pub handed_back_last: usize,
     /// Calls that ran to the end of the text.
     pub unended: usize,
     /// References with a text, without one, and before `(`.
@@ -78,7 +82,7 @@ pub fn answer(files: Option<&Files>, text: &[u8], sheet: Option<&Tree>, out_len:
     }
     let mut run = Run {
         files,
-        text: Text { bytes: text, at: 0 },
+        text: Text::new(text),
         sheet: sheet.clone(),
         size,
         longest: size,
@@ -111,7 +115,7 @@ pub fn tree_length(tree: &Tree) -> usize {
 }
 
 /// A map byte; the name, and the text or the entries, where there are any.
-fn record_length(name: &[u8], value: &Value) -> usize {
+pub fn record_length(name: &[u8], value: &Value) -> usize {
     let field = |bytes: &[u8]| if bytes.is_empty() { 0 } else { 2 + bytes.len() };
     let of_value = match value {
         Value::None => 0,
@@ -119,115 +123,6 @@ fn record_length(name: &[u8], value: &Value) -> usize {
         Value::Dictionary(entries) => 2 + tree_length(entries),
     };
     1 + field(name) + of_value
-}
-
-/// Lookup: split at every `.`; a binding, then keys.
-fn resolve<'a>(tree: &'a Tree, path: &[u8]) -> Option<&'a Value> {
-    let mut pieces = path.split(|&c| c == b'.');
-    let mut value = tree.get(pieces.next()?)?;
-    for piece in pieces {
-        let Value::Dictionary(entries) = value else { return None };
-        value = entries.get(piece)?;
-    }
-    Some(value)
-}
-
-/// The text with a place in it.
-struct Text<'a> {
-    bytes: &'a [u8],
-    at: usize,
-}
-
-impl<'a> Text<'a> {
-    fn next(&self) -> Option<u8> {
-        self.bytes.get(self.at).copied()
-    }
-
-    fn sees(&self, c: u8) -> bool {
-        self.next() == Some(c)
-    }
-
-    /// Steps over one byte; at the end over none.
-    fn skip(&mut self) {
-        self.at = self.bytes.len().min(self.at + 1);
-    }
-
-    /// Steps over the mark if it stands here.
-    fn takes(&mut self, mark: &[u8]) -> bool {
-        let there = self.bytes[self.at..].starts_with(mark);
-        if there {
-            self.at += mark.len();
-        }
-        there
-    }
-
-    /// The longest stretch of such bytes.
-    fn span(&mut self, wanted: impl Fn(u8) -> bool) -> &'a [u8] {
-        let rest = &self.bytes[self.at..];
-        let n = rest.iter().position(|&c| !wanted(c)).unwrap_or(rest.len());
-        self.at += n;
-        &rest[..n]
-    }
-
-    /// A literal, from its `"`.
-    fn literal(&mut self) -> Vec<u8> {
-        self.skip();
-        let mut value = Vec::new();
-        while let Some(c) = self.next() {
-            self.skip();
-            match c {
-                b'"' => break,
-                b'\\' => self.escape(&mut value),
-                _ => value.push(c),
-            }
-        }
-        value
-    }
-
-    /// Behind a `\`.
-    fn escape(&mut self, value: &mut Vec<u8>) {
-        match self.next() {
-            None => value.push(b'\\'),
-            Some(b'n') => value.push(b'\n'),
-            Some(b't') => value.push(b'\t'),
-            Some(c @ (b'"' | b'\\')) => value.push(c),
-            Some(c) => value.extend([b'\\', c]),
-        }
-        self.skip();
-    }
-}
-
-fn is_blank(c: u8) -> bool {
-    matches!(c, 9..=13 | 32)
-}
-
-fn is_line_blank(c: u8) -> bool {
-    is_blank(c) && c != b'\n'
-}
-
-fn is_letter(c: u8) -> bool {
-    c.is_ascii_alphabetic()
-}
-
-fn is_word(c: u8) -> bool {
-    c.is_ascii_alphanumeric() || c == b'_'
-}
-
-fn is_run(c: u8) -> bool {
-    is_word(c) || c == b'-' || c == b'.'
-}
-
-fn underscored(run: &[u8]) -> Vec<u8> {
-    run.iter().map(|&c| if c == b'-' { b'_' } else { c }).collect()
-}
-
-fn without_last_blanks(text: &[u8]) -> &[u8] {
-    &text[..text.iter().rposition(|&c| !is_blank(c)).map_or(0, |i| i + 1)]
-}
-
-fn trimmed(text: &[u8]) -> &[u8] {
-    let text = without_last_blanks(text);
-    &text[text.iter().position(|&c| !is_blank(c)).unwrap_or(text.len())..]
 }
 
 struct Run<'a> {
@@ -282,7 +177,7 @@ impl Run<'_> {
     /// The name; line blanks and `=`; the rest of the line, trimmed, is looked up unchanged.
     fn binding(&mut self) -> Result<(), u8> {
         self.text.span(is_line_blank);
-        let name = underscored(self.text.span(|c| is_word(c) || c == b'-'));
+        let name = underscored(self.text.span(is_name));
         self.text.span(|c| is_line_blank(c) || c == b'=');
         let rest = trimmed(self.text.span(|c| c != b'\n'));
         self.text.skip();
@@ -314,42 +209,13 @@ impl Run<'_> {
             self.seen.called += 1;
             return self.put(&[b"#", run].concat());
         }
-        let text = self.look(run);
+        let text = look(&self.sheet, run);
         if text.is_empty() {
             self.seen.missing += 1;
         } else {
             self.seen.found += 1;
         }
         self.put(&text)
-    }
-
-    /// The text of a reference: a run with each `-` made `_`, then looked up.
-    fn look(&self, run: &[u8]) -> Vec<u8> {
-        match resolve(&self.sheet, &underscored(run)) {
-            Some(Value::Text(text)) => text.clone(),
-            _ => vec![],
-        }
-    }
-
-    fn reference(&mut self) -> Vec<u8> {
-        let run = self.text.span(is_run);
-        self.look(run)
-    }
-
-    fn expression(&mut self) -> Vec<u8> {
-        let mut value = Vec::new();
-        loop {
-            self.text.span(is_line_blank);
-            match self.text.next() {
-                Some(b'"') => value.extend(self.text.literal()),
-                Some(c) if is_letter(c) || c == b'_' => value.extend(self.reference()),
-                _ => return value,
-            }
-            self.text.span(is_line_blank);
-            if !self.text.takes(b"+") {
-                return value;
-            }
-        }
     }
 
     /// `#raw`, `#link`: without `(`, or handed back, the mark and the blanks are output.
@@ -363,8 +229,9 @@ impl Run<'_> {
         if let Some(output) = inner(self)? {
             return self.put(&output);
         }
-        self.text.at = behind;
         self.seen.handed_back += 1;
+        self.seen.handed_back_last += usize::from(self.text.next().is_none());
+        self.text.at = behind;
         self.put(&[mark, blanks].concat())
     }
 
@@ -372,12 +239,12 @@ impl Run<'_> {
     fn raw(&mut self) -> Result<Option<Vec<u8>>, u8> {
         self.text.span(is_blank);
         let content = if self.text.sees(b'"') {
-            self.expression()
+            self.text.expression(&self.sheet)
         } else if self.text.takes(b"read") {
             let Some(content) = self.read()? else { return Ok(None) };
             content
         } else {
-            self.reference()
+            self.text.reference(&self.sheet)
         };
         let (lang, block) = self.arguments()?;
         self.seen.raws += 1;
@@ -396,7 +263,7 @@ impl Run<'_> {
         if !self.text.takes(b"(") {
             return Ok(None);
         }
-        let path = self.expression();
+        let path = self.text.expression(&self.sheet);
         self.text.span(|c| c != b')');
         self.text.skip();
         let content = self.file(path.strip_prefix(b"/").unwrap_or(&path))?;
@@ -428,7 +295,7 @@ impl Run<'_> {
             self.text.span(|c| is_blank(c) || c == b':');
             match name {
                 b"lang" if self.text.sees(b'"') => lang = self.text.literal(),
-                b"lang" => lang = self.reference(),
+                b"lang" => lang = self.text.reference(&self.sheet),
                 b"block" => block = self.text.span(is_letter) == b"true",
                 _ => {}
             }
@@ -450,7 +317,7 @@ impl Run<'_> {
         if self.text.sees(b'<') {
             return Ok(None);
         }
-        let address = self.expression();
+        let address = self.text.expression(&self.sheet);
         self.text.span(is_blank);
         self.seen.links += 1;
         if !self.text.takes(b")") {
@@ -631,6 +498,7 @@ mod tests {
             boxes: 1,
             bare: 1,
             handed_back: 1,
+            handed_back_last: 0,
             unended: 1,
             found: 1,
             missing: 1,
@@ -639,6 +507,8 @@ mod tests {
         let here = run(text, usize::MAX, usize::MAX);
         assert_eq!(here.seen, wanted);
         assert_eq!((here.written, here.reached), (here.result.unwrap().out.len(), text.len()));
+        assert_eq!(run("#raw(read \n", 99, 99).seen.handed_back_last, 1);
+        assert_eq!(run("#raw(read \nx", 99, 99).seen.handed_back_last, 0);
         let here = run("ab #raw(\"a\" (", 99, 99);
         assert_eq!((here.result, here.written, here.reached), (Err(8), 3, 3));
     }

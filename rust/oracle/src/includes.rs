@@ -4,6 +4,7 @@
 //! refusals it has no counterpart: it has no buffer, takes any UTF-8, follows `..` and knows no levels.
 use crate::bundle::{Files, Found, decode, find};
 use crate::layout::{bundle_entries, is_folder, is_path, is_text};
+use crate::text::{is_blank, trimmed};
 
 const INCLUDE: &[u8] = b"#include";
 const SOURCE: &[u8] = b"#source-include";
@@ -32,6 +33,8 @@ pub struct Seen {
     pub unended: usize,
     /// The deepest level of an included file.
     pub depth: usize,
+    /// Marks of the text itself, not of a file, that leave it open (section 6).
+    pub open: usize,
 }
 
 /// The files of a bundle, or None where it breaks its layout.
@@ -90,10 +93,10 @@ impl Run<'_> {
         let taken = if commented(before) {
             self.seen.commented += 1;
             None
-        } else if mark == INCLUDE {
-            self.include(behind, folder, levels)?
         } else {
-            self.source(behind, folder)?
+            let whole = if mark == INCLUDE { quoted(behind, 0).is_some() } else { whole_source(behind) };
+            self.seen.open += usize::from(levels == LEVELS && !whole);
+            if mark == INCLUDE { self.include(behind, folder, levels)? } else { self.source(behind, folder)? }
         };
         if taken.is_none() {
             self.put(mark)?;
@@ -117,7 +120,7 @@ impl Run<'_> {
 
     /// The same behind `#source-include`.
     fn source(&mut self, behind: &[u8], folder: &[u8]) -> Result<Option<usize>, u8> {
-        let blanks = behind.iter().take_while(|c| is_blank(c)).count();
+        let blanks = behind.iter().take_while(|c| is_blank(**c)).count();
         if behind.get(blanks) != Some(&b'(') {
             return Ok(self.unended());
         }
@@ -178,13 +181,17 @@ fn mark_at(rest: &[u8]) -> Option<&'static [u8]> {
     [INCLUDE, SOURCE].into_iter().find(|mark| rest.starts_with(mark))
 }
 
-fn is_blank(c: &u8) -> bool {
-    matches!(c, 9..=13 | 32)
+fn commented(before: &[u8]) -> bool {
+    trimmed(before).starts_with(b"//")
 }
 
-fn commented(before: &[u8]) -> bool {
-    let blanks = before.iter().take_while(|c| is_blank(c)).count();
-    before[blanks..].starts_with(b"//")
+/// Closed (section 6), behind `#source-include`: blanks skipped, a byte; if that is `(`, four `"` behind it, a `)`, and a newline behind
+/// that.
+fn whole_source(behind: &[u8]) -> bool {
+    let Some(first) = behind.iter().position(|&c| !is_blank(c)) else { return false };
+    let quotes = behind[first..].iter().filter(|&&c| c == b'"').count();
+    let close = behind.iter().position(|&c| c == b')');
+    behind[first] != b'(' || quotes >= 4 && close.is_some_and(|at| behind[at..].contains(&b'\n'))
 }
 
 /// What stands between the next two `"`, and the place behind them.
@@ -195,17 +202,11 @@ fn quoted(text: &[u8], from: usize) -> Option<(&[u8], usize)> {
     Some((&text[first + 1..second], second + 1))
 }
 
-fn trimmed(path: &[u8]) -> &[u8] {
-    let Some(first) = path.iter().position(|c| !is_blank(c)) else { return b"" };
-    let last = path.iter().rposition(|c| !is_blank(c)).expect("a byte that is no blank");
-    &path[first..=last]
-}
-
-fn joined(folder: &[u8], path: &[u8]) -> Vec<u8> {
+pub fn joined(folder: &[u8], path: &[u8]) -> Vec<u8> {
     if folder.is_empty() { path.to_vec() } else { [folder, b"/", path].concat() }
 }
 
-fn parent(path: &[u8]) -> &[u8] {
+pub fn parent(path: &[u8]) -> &[u8] {
     path.iter().rposition(|&c| c == b'/').map_or(b"", |i| &path[..i])
 }
 
@@ -305,6 +306,30 @@ mod tests {
         assert_eq!(answer(None, b"/", b"\x80", 0).result, Err(2));
     }
 
+    // The marks of a text that leave it open; those of the files that it includes do not count.
+    #[test]
+    fn open_marks() {
+        let cases = [
+            ("#include \"a\"", 0),
+            ("#include \"a", 1),
+            ("// #include \"a", 0),
+            ("#source-include", 1),
+            ("#source-include \n", 1),
+            ("#source-include \nx", 0),
+            ("#source-include(\"a\")\n", 1),
+            ("#source-include(\"a\",\"r)\"\n", 0),
+            ("#source-include(\"a\",\"r\")", 1),
+            ("#source-include(\"a\",\"r\"\n", 1),
+            ("#source-include(\"a\",)\n\"r\"", 0),
+            ("#source-include(x)\n", 1),
+            ("#include \"d/e/s\"", 0),
+            ("#include\"a\"#include", 1),
+        ];
+        for (text, open) in cases {
+            assert_eq!(answer(Some(&some_files()), b"", text.as_bytes(), 99).seen.open, open, "{text}");
+        }
+    }
+
     // Per file: 4, 5, 7, 6. The levels are tested by files that stand below six others.
     #[test]
     fn at_the_seventh_level() {
@@ -319,7 +344,7 @@ mod tests {
     #[test]
     fn what_was_seen() {
         let here = answer(Some(&some_files()), b"", b"//#include\n#include \"d/e/s\"#include", 99);
-        assert_eq!(here.seen, Seen { includes: 2, sources: 1, commented: 1, unended: 1, depth: 2 });
+        assert_eq!(here.seen, Seen { includes: 2, sources: 1, commented: 1, unended: 1, depth: 2, open: 1 });
         assert_eq!(here.written, here.result.unwrap().len());
     }
 }

@@ -4,21 +4,23 @@
 //! - `resolve_includes`, `preprocess_typst`, `parse_definitions`: in this process, the files unpacked into a fresh folder.
 //!   They can hang, or overflow the stack: `child` runs them in a process of their own, with a time limit.
 //! - `resolve_includes_below`: the same with files that were unpacked before, for many texts.
-//! - `preprocess_typst_below`: likewise.
-//! - `includes` and `expansion`: what 01 adds to `resolve_includes` and `preprocess_typst`: which calls are accepted, and the numbers
-//!   of the others.
+//! - `preprocess_typst_below`, `parse_definitions_below`: likewise.
+//! - `includes`, `expansion` and `definitions`: what 01 adds to `resolve_includes`, `preprocess_typst` and `parse_definitions`: which
+//!   calls are accepted, and the numbers of the others.
 //! - `sheet` and `bundle`: bytes to trees and files, and back. `bundle::find` finds by path.
 //! - `layout`: the rules of 01 for bytes.
 
 mod anyhow;
 pub mod bundle;
 pub mod child;
+pub mod definitions;
 pub mod expansion;
 pub mod includes;
 pub mod layout;
 mod reader;
 mod reference;
 pub mod sheet;
+mod text;
 
 pub use bundle::{Files, Found, Unpacked};
 pub use reference::Context;
@@ -61,7 +63,12 @@ pub fn preprocess_typst_below(unpacked: &Unpacked, text: &str, context: &Context
 
 /// The bindings of a definitions file.
 pub fn parse_definitions(files: &Files, path: &str) -> Result<Context, String> {
-    reference::definitions(unpacked(files)?.root(), path)
+    parse_definitions_below(&unpacked(files)?, path)
+}
+
+/// The same with files that were unpacked before.
+pub fn parse_definitions_below(unpacked: &Unpacked, path: &str) -> Result<Context, String> {
+    reference::definitions(unpacked.root(), path)
 }
 
 fn unpacked(files: &Files) -> Result<Unpacked, String> {
