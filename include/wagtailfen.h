@@ -2,15 +2,15 @@
  * `rt staticlib wagtailfen` makes. Written for x86-64.
  *
  * A slice is a pointer and then a length. The pointer of an empty slice is not null either: any aligned address that is
- * not null will do. A buffer that is written (out, left, middle) overlaps no other slice of the call.
+ * not null will do. A buffer that is written (out, left, middle, work) overlaps no other slice of the call.
  *
  * Each answer begins with a number: 0 accepted, else the refusal of document 01, section 8:
- *   2 bundle breaks its layout        7 seventh include level
- *   3 sheet breaks its layout         8 raw round that moves by nothing
- *   4 path or folder rule broken      9 sheet longer than its buffer, or than 65,535 bytes
- *   5 file absent                    10 middle buffer too short
- *   6 byte from 128 in a text        11 output buffer too short
- *     or opened file
+ *   1 work buffer too short            7 seventh dictionary, include or import level
+ *   2 bundle breaks its layout         8 raw round that moves by nothing
+ *   3 sheet breaks its layout          9 sheet, value or growing dictionary longer than the sheet buffer, or than 65,535 bytes
+ *   4 path or folder rule broken      10 middle buffer too short
+ *   5 file absent                     11 output buffer too short
+ *   6 byte from 128 in a text or opened file
  * Refused: the other fields are 0 and every byte of a buffer that is written is 0.
  */
 #ifndef WAGTAILFEN_H
@@ -76,8 +76,21 @@ struct wf_expanded wf_preprocess_typst(const uint8_t *bundle, size_t bundle_len,
                                        const uint8_t *sheet, size_t sheet_len, uint8_t *out, size_t out_len,
                                        uint8_t *left, size_t left_len);
 
-/* A pass: the first len bytes of out, the first sheet_len bytes of left, and 0 behind them; every byte of middle is 0. closed: the text
- * is closed (document 01, section 6), so a pass over what follows it, from the sheet that is left, goes on as one pass over both. */
+/* The bindings of a definitions file: the first sheet_len bytes of left, and 0 behind them. */
+struct wf_defined {
+    uint8_t number;
+    size_t sheet_len;
+};
+
+/* The bindings of the file at path, and of the files that it imports. L is left_len, or 65,535 where that is less. work has at least 16
+ * times L bytes, else 1; it is 0 afterwards. Refusals 1, 2, 4, then 5, 6 for the file itself; then whichever comes first in reading: 9 for
+ * a value, a growing dictionary or a sheet longer than L, 7 for a seventh dictionary level, and 4, 5, 7, 6, in this order, for an
+ * imported file. */
+struct wf_defined wf_parse_definitions(const uint8_t *bundle, size_t bundle_len, const uint8_t *path, size_t path_len,
+                                       uint8_t *left, size_t left_len, uint8_t *work, size_t work_len);
+
+/* A pass: the first len bytes of out, the first sheet_len bytes of left, and 0 behind them. closed: is the text closed, so that the text
+ * that follows it can be passed over by itself, from the sheet that is left here. */
 struct wf_passed {
     uint8_t number;
     size_t len;
@@ -85,12 +98,13 @@ struct wf_passed {
     bool closed;
 };
 
-/* The text with its includes resolved into middle and that expanded into out, and the sheet with the text's own bindings in left.
- * Refusals 2, 3, 4, 6 for the arguments, and 9 where the sheet given is longer than left; then those of the includes in reading, with
- * 10 for a short middle; then those of the expansion in reading. */
+/* The text with its includes resolved, into middle, and then expanded, into out: both as the calls above do it. The sheet with the text's own
+ * bindings is in left; middle is 0 afterwards. Refusals 2, 3, 4, 6 for the arguments, and 9 where the sheet given is longer than left; then
+ * those of the includes, where a short middle is 10; then those of the expansion. */
 struct wf_passed wf_pass(const uint8_t *bundle, size_t bundle_len, const uint8_t *folder, size_t folder_len,
                          const uint8_t *text, size_t text_len, const uint8_t *sheet, size_t sheet_len,
-                         uint8_t *middle, size_t middle_len, uint8_t *out, size_t out_len, uint8_t *left, size_t left_len);
+                         uint8_t *middle, size_t middle_len, uint8_t *out, size_t out_len,
+                         uint8_t *left, size_t left_len);
 
 #ifdef __cplusplus
 }

@@ -583,7 +583,7 @@ fn content(rng: &mut Rng) -> Vec<u8> {
 }
 
 /// The path with some `_` made `-`.
-fn hyphened(mut path: Vec<u8>, rng: &mut Rng) -> Vec<u8> {
+pub fn hyphened(mut path: Vec<u8>, rng: &mut Rng) -> Vec<u8> {
     for c in &mut path {
         if *c == b'_' && rng.one_in(2) {
             *c = b'-';
@@ -605,7 +605,7 @@ fn import(text: &mut Vec<u8>, rng: &mut Rng) {
 }
 
 /// With its `"` at the end, mostly.
-fn literal(text: &mut Vec<u8>, rng: &mut Rng) {
+pub fn literal(text: &mut Vec<u8>, rng: &mut Rng) {
     text.push(b'"');
     for _ in 0..rng.below(4) {
         text.extend(word(&LITERALS, rng));
@@ -616,7 +616,7 @@ fn literal(text: &mut Vec<u8>, rng: &mut Rng) {
 }
 
 /// Mostly none; at times a byte that is nearly a blank.
-fn some_blanks(text: &mut Vec<u8>, set: &[u8], rng: &mut Rng) {
+pub fn some_blanks(text: &mut Vec<u8>, set: &[u8], rng: &mut Rng) {
     if rng.one_in(4) {
         blanks(text, set, rng);
     }
@@ -638,7 +638,7 @@ pub fn rooms(written: usize, longest: usize, rng: &mut Rng) -> (usize, usize) {
     }
 }
 
-fn enough(len: usize, rng: &mut Rng) -> usize {
+pub fn enough(len: usize, rng: &mut Rng) -> usize {
     match rng.below(8) {
         0..4 => len,
         4 | 5 => len + 1,
@@ -646,7 +646,7 @@ fn enough(len: usize, rng: &mut Rng) -> usize {
     }
 }
 
-fn short(len: usize, rng: &mut Rng) -> usize {
+pub fn short(len: usize, rng: &mut Rng) -> usize {
     match rng.below(8) {
         0..4 => len.saturating_sub(1),
         4 => 0,

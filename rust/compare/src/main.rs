@@ -8,6 +8,7 @@ mod buffer;
 mod bundles;
 mod case;
 mod damage;
+mod definitions;
 mod expansions;
 mod loose;
 mod modes;

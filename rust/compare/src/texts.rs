@@ -272,12 +272,12 @@ fn targets(files: &Files, known: &[Vec<u8>], folder: &[u8], rng: &mut Rng) -> Ta
 }
 
 /// The paths that stand below a folder, from there.
-fn below(paths: &[Vec<u8>], folder: &[u8]) -> Vec<Vec<u8>> {
+pub fn below(paths: &[Vec<u8>], folder: &[u8]) -> Vec<Vec<u8>> {
     let start = joined(folder, b"");
     paths.iter().filter_map(|path| path.strip_prefix(start.as_slice())).map(<[u8]>::to_vec).collect()
 }
 
-fn joined(folder: &[u8], path: &[u8]) -> Vec<u8> {
+pub fn joined(folder: &[u8], path: &[u8]) -> Vec<u8> {
     if folder.is_empty() { path.to_vec() } else { [folder, b"/", path].concat() }
 }
 

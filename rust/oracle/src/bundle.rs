@@ -116,12 +116,27 @@ impl Unpacked {
     /// Unpacks the files into a fresh folder, in memory where the system has a folder for that.
     pub fn new(files: &Files) -> io::Result<Unpacked> {
         let unpacked = Unpacked { root: fresh_folder()? };
-        for (path, content) in files {
-            let path = unpacked.root.join(utf8(path)?);
-            fs::create_dir_all(path.parent().expect("a path below the root"))?;
-            fs::write(path, content)?;
-        }
+        unpacked.change(&Files::new(), files)?;
         Ok(unpacked)
+    }
+
+    /// Makes the folder, which holds the files `from`, hold the files `to`. Only what differs is written or removed.
+    pub fn change(&self, from: &Files, to: &Files) -> io::Result<()> {
+        for path in from.keys().filter(|path| !to.contains_key(*path)) {
+            let path = self.root.join(utf8(path)?);
+            fs::remove_file(&path)?;
+            // Folders that are empty now are no folders of the bundle. The first that is not ends this.
+            let above = path.ancestors().skip(1).take_while(|above| *above != self.root);
+            let _ = above.map(fs::remove_dir).take_while(Result::is_ok).count();
+        }
+        for (path, content) in to.iter().filter(|(path, content)| from.get(*path) != Some(content)) {
+            let place = self.root.join(utf8(path)?);
+            if !from.contains_key(path) {
+                fs::create_dir_all(place.parent().expect("a path below the root"))?;
+            }
+            fs::write(place, content)?;
+        }
+        Ok(())
     }
 
     pub fn root(&self) -> &Path {
@@ -209,6 +224,11 @@ mod tests {
         let disk = Unpacked::new(&all).unwrap();
         for path in ["a", "a/b", "a/b/c", "a-b", "a-b/x", "z", "a/c", "b", "a/b/c/d", "z/z"] {
             assert_eq!(disk.find(path.as_bytes()).unwrap(), find(&all, path.as_bytes()), "{path}");
+        }
+        let other = files(&[("a", "now a file"), ("a-b/x", "longer"), ("b/c/d", "")]);
+        disk.change(&all, &other).unwrap();
+        for path in ["a", "a/b", "a/b/c", "a-b", "a-b/x", "z", "b", "b/c", "b/c/d"] {
+            assert_eq!(disk.find(path.as_bytes()).unwrap(), find(&other, path.as_bytes()), "{path}");
         }
         let root = disk.root().to_path_buf();
         drop(disk);

@@ -44,8 +44,10 @@ pub struct Seen {
     pub nones: usize,
     pub no_values: usize,
     pub dictionaries: usize,
-    /// Expressions of two terms or more.
+    /// Expressions of two terms or more; references with a text, and of these the ones to a key.
     pub sums: usize,
+    pub found: usize,
+    pub keyed: usize,
     /// Entries whose key was there before, and whose key is empty.
     pub doubled: usize,
     pub no_keys: usize,
@@ -234,8 +236,11 @@ impl Run<'_> {
 
     fn text_value(&mut self, text: &mut Text, sheet: &Tree) -> Result<Value, u8> {
         let from = text.at;
+        (text.found, text.keyed) = (0, 0);
         let value = Value::Text(text.expression(sheet));
         self.seen.texts += 1;
+        self.seen.found += text.found;
+        self.seen.keyed += text.keyed;
         // Of a literal `"+"` this is not exact; it is for the tally alone.
         self.seen.sums += usize::from(text.bytes[from..text.at].contains(&b'+'));
         self.measure(record_length(b"", &value))?;
@@ -477,6 +482,8 @@ mod tests {
             no_values: 1,
             dictionaries: 2,
             sums: 2,
+            found: 2,
+            keyed: 0,
             doubled: 1,
             no_keys: 1,
             unended: 1,

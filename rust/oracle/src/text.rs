@@ -5,11 +5,14 @@ use crate::sheet::{Tree, Value};
 pub struct Text<'a> {
     pub bytes: &'a [u8],
     pub at: usize,
+    /// References of expressions that have a text, and of these the ones to a key.
+    pub found: usize,
+    pub keyed: usize,
 }
 
 impl<'a> Text<'a> {
     pub fn new(bytes: &'a [u8]) -> Text<'a> {
-        Text { bytes, at: 0 }
+        Text { bytes, at: 0, found: 0, keyed: 0 }
     }
 
     pub fn next(&self) -> Option<u8> {
@@ -71,7 +74,11 @@ impl<'a> Text<'a> {
 
     /// The text of the reference that stands here, in a sheet of these bindings.
     pub fn reference(&mut self, sheet: &Tree) -> Vec<u8> {
-        look(sheet, self.span(is_run))
+        let run = self.span(is_run);
+        let text = look(sheet, run);
+        self.found += usize::from(!text.is_empty());
+        self.keyed += usize::from(!text.is_empty() && run.contains(&b'.'));
+        text
     }
 
     pub fn expression(&mut self, sheet: &Tree) -> Vec<u8> {

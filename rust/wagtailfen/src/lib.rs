@@ -43,6 +43,30 @@ pub struct Expanded {
     pub sheet_len: usize,
 }
 
+/// The bindings of a definitions file.
+#[repr(C)]
+#[derive(Clone, Copy, Debug, PartialEq, Eq)]
+pub struct Defined {
+    /// 0 accepted; 1, 2, 4, 5, 6, 7, 9.
+    pub number: u8,
+    /// How many bytes of the sheet buffer the sheet takes. Those behind it are 0.
+    pub sheet_len: usize,
+}
+
+/// A text with its includes that was expanded, and the sheet that it leaves.
+#[repr(C)]
+#[derive(Clone, Copy, Debug, PartialEq, Eq)]
+pub struct Passed {
+    /// 0 accepted; 2 to 11.
+    pub number: u8,
+    /// How many bytes of the output the text takes. Those behind it are 0.
+    pub len: usize,
+    /// How many bytes of the sheet buffer the sheet takes. Those behind it are 0.
+    pub sheet_len: usize,
+    /// The text that follows can be passed over by itself, from the sheet that is left.
+    pub closed: bool,
+}
+
 /// What a path is in a bundle.
 #[repr(C)]
 #[derive(Clone, Copy, Debug, PartialEq, Eq)]
@@ -112,6 +136,64 @@ pub fn preprocess_typst(bundle: &[u8], text: &[u8], sheet: &[u8], out: &mut [u8]
             text.len(),
             sheet.as_ptr(),
             sheet.len(),
+            out.as_mut_ptr(),
+            out.len(),
+            left.as_mut_ptr(),
+            left.len(),
+        )
+    }
+}
+
+/// How many bytes the work buffer of `parse_definitions` must have for a sheet buffer of this length.
+pub const fn work_needed(left_len: usize) -> usize {
+    16 * if left_len < 65_535 { left_len } else { 65_535 }
+}
+
+/// Writes the bindings of the definitions file at `path`, with those that it imports, as a sheet to the start of `left`, and 0 behind it.
+/// `work` has at least `work_needed(left.len())` bytes, else it is refused; it is 0 afterwards.
+pub fn parse_definitions(bundle: &[u8], path: &[u8], left: &mut [u8], work: &mut [u8]) -> Defined {
+    // SAFETY: all slices can be read for their lengths, and their pointers are not null; `left` and `work` can be written for their
+    // lengths and overlap none of the others.
+    unsafe {
+        raw::wf_parse_definitions(
+            bundle.as_ptr(),
+            bundle.len(),
+            path.as_ptr(),
+            path.len(),
+            left.as_mut_ptr(),
+            left.len(),
+            work.as_mut_ptr(),
+            work.len(),
+        )
+    }
+}
+
+/// Writes `text` with its includes resolved and then expanded to the start of `out`, and the sheet with the text's own bindings to the
+/// start of `left`; 0 behind both. `folder` is the folder of the bundle where the text stands, or empty; `sheet` is the one that the text
+/// begins with. `middle` takes the text between the two; it is 0 afterwards.
+pub fn pass(
+    bundle: &[u8],
+    folder: &[u8],
+    text: &[u8],
+    sheet: &[u8],
+    middle: &mut [u8],
+    out: &mut [u8],
+    left: &mut [u8],
+) -> Passed {
+    // SAFETY: all slices can be read for their lengths, and their pointers are not null; `middle`, `out` and `left` can be written for
+    // their lengths and overlap none of the others.
+    unsafe {
+        raw::wf_pass(
+            bundle.as_ptr(),
+            bundle.len(),
+            folder.as_ptr(),
+            folder.len(),
+            text.as_ptr(),
+            text.len(),
+            sheet.as_ptr(),
+            sheet.len(),
+            middle.as_mut_ptr(),
+            middle.len(),
             out.as_mut_ptr(),
             out.len(),
             left.as_mut_ptr(),
@@ -221,6 +303,54 @@ mod tests {
         let refused = |number| Expanded { number, len: 0, sheet_len: 0 };
         assert_eq!(preprocess_typst(b"", b"", b"\x10", &mut [], &mut []), refused(2));
         assert_eq!(preprocess_typst(bundle, b"", b"\x10", &mut [], &mut []), refused(3));
+    }
+
+    #[test]
+    fn definitions() {
+        let bundle = b"\x02\0\x06\x01d\x1f\0#import \"e\": e\n#let x = e + \"0\"\x06\x01e\x0c\0#let e = \"1\"";
+        let sheet = b"\x03\x01\0e\x01\x001\x03\x01\0x\x02\x0010";
+        let (mut left, mut work) = ([0xAA; 20], [0xAA; 320]);
+        let mut call = |bundle: &[u8], path: &[u8], l: usize, w: usize| {
+            let here = parse_definitions(bundle, path, &mut left[..l], &mut work[..w]);
+            let (sheet, behind) = left[..l].split_at(here.sheet_len);
+            (here.number, sheet.to_vec(), behind.iter().chain(&work[..w]).all(|&c| c == 0))
+        };
+        assert_eq!(call(bundle, b"d", 20, work_needed(20)), (0, sheet.to_vec(), true));
+        assert_eq!(call(bundle, b"d", 15, work_needed(15)), (0, sheet.to_vec(), true));
+        assert_eq!(call(bundle, b"d", 14, work_needed(14)), (9, vec![], true));
+        assert_eq!(call(bundle, b"d", 15, work_needed(15) - 1), (1, vec![], true));
+        assert_eq!(call(b"", b"d", 15, work_needed(15)), (2, vec![], true));
+        assert_eq!(call(bundle, b"", 15, work_needed(15)), (4, vec![], true));
+        assert_eq!(call(bundle, b"n", 15, work_needed(15)), (5, vec![], true));
+        assert_eq!(work_needed(65_536), 16 * 65_535);
+    }
+
+    #[test]
+    fn passes() {
+        let bundle = b"\x01\0\x06\x01a\x02\0#x";
+        let (mut middle, mut out, mut left) = ([0xAA; 12], [0xAA; 12], [0xAA; 40]);
+        let mut call = |folder: &[u8], text: &[u8], m: usize, n: usize, l: usize| {
+            let here = pass(bundle, folder, text, SHEET, &mut middle[..m], &mut out[..n], &mut left[..l]);
+            let (text, behind) = out[..n].split_at(here.len);
+            let (sheet, last) = left[..l].split_at(here.sheet_len);
+            let zero = behind.iter().chain(last).chain(&middle[..m]).all(|&c| c == 0);
+            (here.number, text.to_vec(), sheet.to_vec(), here.closed, zero)
+        };
+        let refused = |number| (number, vec![], vec![], false, true);
+        let left = [SHEET, b"\x03\x01\0y\x02\x0010"].concat();
+        assert_eq!(call(b"", b"#include \"a\"\n", 4, 4, 40), (0, b"10\n\n".to_vec(), SHEET.to_vec(), true, true));
+        assert_eq!(call(b"", b"#include \"a\"\n", 3, 4, 40), refused(10));
+        assert_eq!(call(b"", b"#include \"a\"\n", 4, 3, 40), refused(11));
+        assert_eq!(call(b"", b"#let y = x\n", 12, 0, left.len()), (0, vec![], left.clone(), true, true));
+        assert_eq!(call(b"", b"#let y = x\n", 12, 0, left.len() - 1), refused(9));
+        assert_eq!(call(b"", b"#raw(x\n", 12, 12, 40), (0, b"`10`".to_vec(), SHEET.to_vec(), false, true));
+        assert_eq!(call(b"", b"", 0, 0, SHEET.len()), (0, vec![], SHEET.to_vec(), true, true));
+        assert_eq!(call(b"/", b"", 0, 0, 40), refused(4));
+        assert_eq!(call(b"", b"\x80", 12, 12, 40), refused(6));
+        assert_eq!(call(b"d", b"#include \"a\"", 12, 12, 40), refused(5));
+        let wide = |number| Passed { number, len: 0, sheet_len: 0, closed: false };
+        assert_eq!(pass(b"", b"/", b"", b"\x10", &mut [], &mut [], &mut []), wide(2));
+        assert_eq!(pass(bundle, b"/", b"", b"\x10", &mut [], &mut [], &mut []), wide(3));
     }
 
     #[test]

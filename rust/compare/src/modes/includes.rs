@@ -157,7 +157,7 @@ impl Tally {
         if wanted.result.is_err() {
             return;
         }
-        let Seen { includes, sources, commented, unended, depth } = wanted.seen;
+        let Seen { includes, sources, commented, unended, depth, .. } = wanted.seen;
         self.accepted += 1;
         self.include += u64::from(includes > 0);
         self.source += u64::from(sources > 0);

@@ -4,6 +4,7 @@ use crate::case::Case;
 use crate::rng::Rng;
 use std::fmt::Debug;
 
+mod definitions;
 mod expansion;
 mod files;
 mod includes;
@@ -39,6 +40,7 @@ pub fn all() -> Vec<Box<dyn Mode>> {
         Box::new(includes::Includes::default()),
         Box::new(expansion::Expansion::default()),
         Box::new(stalls::Stalls::new()),
+        Box::new(definitions::Definitions::default()),
     ]
 }
 
