@@ -180,7 +180,7 @@ impl Group {
         text
     }
 
-    fn piece(&self, text: &mut Vec<u8>, rng: &mut Rng) {
+    pub fn piece(&self, text: &mut Vec<u8>, rng: &mut Rng) {
         match rng.below(40) {
             0..4 => text.extend(word(&WORDS, rng)),
             4..6 => import(text, rng),

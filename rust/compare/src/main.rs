@@ -12,6 +12,7 @@ mod definitions;
 mod expansions;
 mod loose;
 mod modes;
+mod passes;
 mod rng;
 mod sheets;
 mod shrink;

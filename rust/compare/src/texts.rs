@@ -110,6 +110,18 @@ impl Group {
         }
     }
 
+    /// So many pieces of a text that stands in a folder, and no damage.
+    pub fn pieces(&self, folder: &[u8], count: usize, rng: &mut Rng) -> Vec<u8> {
+        let known: Vec<Vec<u8>> = self.files.keys().cloned().collect();
+        let mut targets = targets(&self.files, &known, folder, rng);
+        targets.bad = rng.one_in(4);
+        let mut text = Vec::new();
+        for _ in 0..count {
+            piece(&mut text, &targets, rng);
+        }
+        text
+    }
+
     /// A text that stands in a folder.
     pub fn text(&self, folder: &[u8], rng: &mut Rng) -> Vec<u8> {
         let known: Vec<Vec<u8>> = self.files.keys().cloned().collect();

@@ -6,7 +6,7 @@
 //! - `resolve_includes_below`: the same with files that were unpacked before, for many texts.
 //! - `preprocess_typst_below`, `parse_definitions_below`: likewise.
 //! - `includes`, `expansion` and `definitions`: what 01 adds to `resolve_includes`, `preprocess_typst` and `parse_definitions`: which
-//!   calls are accepted, and the numbers of the others.
+//!   calls are accepted, and the numbers of the others. `pass`: both of the first two in a pass, and whether a text is closed.
 //! - `sheet` and `bundle`: bytes to trees and files, and back. `bundle::find` finds by path.
 //! - `layout`: the rules of 01 for bytes.
 
@@ -17,6 +17,7 @@ pub mod definitions;
 pub mod expansion;
 pub mod includes;
 pub mod layout;
+pub mod pass;
 mod reader;
 mod reference;
 pub mod sheet;
@@ -59,6 +60,16 @@ pub fn preprocess_typst(files: &Files, text: &str, context: &Context) -> Result<
 /// The same with files that were unpacked before.
 pub fn preprocess_typst_below(unpacked: &Unpacked, text: &str, context: &Context) -> Result<(String, Context), String> {
     reference::expansion(unpacked.root(), text, context)
+}
+
+/// Includes, then expansion, with files that were unpacked before.
+pub fn pass_below(
+    unpacked: &Unpacked,
+    folder: &str,
+    text: &str,
+    context: &Context,
+) -> Result<(String, Context), String> {
+    preprocess_typst_below(unpacked, &resolve_includes_below(unpacked, folder, text)?, context)
 }
 
 /// The bindings of a definitions file.

@@ -9,6 +9,8 @@ mod expansion;
 mod files;
 mod includes;
 mod lookup;
+mod parts;
+mod pass;
 mod stalls;
 
 pub trait Mode {
@@ -41,6 +43,8 @@ pub fn all() -> Vec<Box<dyn Mode>> {
         Box::new(expansion::Expansion::default()),
         Box::new(stalls::Stalls::new()),
         Box::new(definitions::Definitions::default()),
+        Box::new(pass::Pass::default()),
+        Box::new(parts::Parts::default()),
     ]
 }
 
