@@ -35,6 +35,9 @@ const OPENINGS: [&str; 22] = [
 ];
 const ENDINGS: [&str; 8] = [")", "]", "\"", ")]", "x)", "\"\"", " ", "\n)"];
 
+/// A file shorter than this is made longer, by less than this.
+const SHORT: usize = 1000;
+
 /// What a text may be made with.
 pub struct Group {
     included: texts::Group,
@@ -50,12 +53,17 @@ impl Group {
             }
         }
         // Files with something to expand, some of it unended.
-        for content in included.files.values_mut() {
-            if rng.one_in(2) && content.is_ascii() && content.len() < 1000 {
-                expanded.piece(content, rng);
+        for content in included.files.values_mut().filter(|content| content.len() < SHORT) {
+            let mut added = Vec::new();
+            if rng.one_in(2) {
+                expanded.piece(&mut added, rng);
             }
             if rng.one_in(8) {
-                content.extend(word(&OPENINGS, rng));
+                added.extend(word(&OPENINGS, rng));
+            }
+            // A text of the sheet that stands in it may be as long as a sheet.
+            if added.len() < SHORT {
+                content.extend(added);
             }
         }
         Group { included, expanded }
