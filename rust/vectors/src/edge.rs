@@ -1,7 +1,9 @@
-//! The lines with given answers: a JSON object each. Taken are the include calls, and for the expansion call the passes over texts
-//! that include nothing. The given answer is written, and must be the one that the oracle has.
+//! The lines with given answers: a JSON object each. Taken are the include calls; for the expansion call the passes over texts that include
+//! nothing; the definitions calls; and the passes. The given answer is written, and must be the one that the oracle has.
 use crate::record::Record;
-use crate::{expansion, includes};
+use crate::{definitions, expansion, includes, pass};
+use oracle::definitions::work_needed;
+use oracle::pass::Rooms;
 use std::{fs, io};
 
 /// Where a line gives no length of the buffer: so many bytes more than the text; for a refused call so many.
@@ -17,6 +19,48 @@ pub fn includes(path: &str) -> io::Result<Vec<Record>> {
 pub fn expansions(path: &str) -> io::Result<Vec<Record>> {
     let lines = fs::read_to_string(path)?;
     Ok(lines.lines().filter(|line| value(line, "fn") == "pass").filter_map(expansion_case).collect())
+}
+
+/// All whose buffers the program has: one with a sheet buffer of 70,000 bytes is left out.
+pub fn definitions(path: &str) -> io::Result<Vec<Record>> {
+    let lines = fs::read_to_string(path)?;
+    Ok(lines.lines().filter(|line| value(line, "fn") == "definitions").filter_map(definitions_case).collect())
+}
+
+pub fn passes(path: &str) -> io::Result<Vec<Record>> {
+    let lines = fs::read_to_string(path)?;
+    Ok(lines.lines().filter(|line| value(line, "fn") == "pass").map(pass_case).collect())
+}
+
+fn definitions_case(line: &str) -> Option<Record> {
+    let bytes = |key: &str| unhex(value(line, key));
+    let (bundle, path) = (bytes("bundle"), bytes("path"));
+    let [left, work] = caps(line);
+    let left = left.unwrap_or_else(|| definitions::longest(&bundle, &path) + MORE);
+    let case = definitions::Case { bundle, path, left, work: work.unwrap_or(work_needed(left)) };
+    let number: u8 = value(line, "n").parse().expect("a number");
+    let given = if number == 0 { Ok(bytes("left")) } else { Err(number) };
+    assert_eq!(definitions::wanted(&case), given, "{line}");
+    definitions::fits(&case).then(|| definitions::record(&case, &given))
+}
+
+fn pass_case(line: &str) -> Record {
+    let bytes = |key: &str| unhex(value(line, key));
+    let (bundle, folder, text, sheet) = (bytes("bundle"), bytes("folder"), bytes("text"), bytes("sheet"));
+    let enough = pass::enough(&bundle, &folder, &text, &sheet);
+    let [middle, out, left] = caps(line);
+    let rooms = Rooms {
+        middle: middle.unwrap_or(enough.middle + MORE),
+        out: out.unwrap_or(enough.out + MORE),
+        left: left.unwrap_or(enough.left + MORE),
+    };
+    let case = pass::Case { bundle, folder, text, sheet, rooms };
+    let number: u8 = value(line, "n").parse().expect("a number");
+    let closed = value(line, "closed") == "true";
+    let given =
+        if number == 0 { Ok(pass::Done { out: bytes("out"), left: bytes("left"), closed }) } else { Err(number) };
+    assert_eq!(pass::wanted(&case), given, "{line}");
+    pass::record(&case, &given)
 }
 
 fn include_case(line: &str) -> Record {
@@ -52,11 +96,11 @@ fn expansion_case(line: &str) -> Option<Record> {
     Some(expansion::record(&case, &given))
 }
 
-/// The lengths of the three buffers of a pass, where they are given.
-fn caps(line: &str) -> [Option<usize>; 3] {
+/// The lengths of a call's buffers, where they are given.
+fn caps<const N: usize>(line: &str) -> [Option<usize>; N] {
     let list = line.split("\"caps\": [").nth(1).and_then(|rest| rest.split(']').next()).expect("caps");
     let caps: Vec<Option<usize>> = list.split(", ").map(|cap| cap.parse().ok()).collect();
-    caps.try_into().expect("three lengths")
+    caps.try_into().expect("as many lengths as buffers")
 }
 
 /// What stands behind the key, without quotes.

@@ -1,5 +1,5 @@
 //! Cases of `preprocess_typst`. Texts and bindings are the Rust reference's; the numbers are 01's, as the oracle reads it.
-use crate::record::{EXPANSION, Record, word};
+use crate::record::{EXPANSION, LONGEST_ROOM, Record, answer_field};
 use oracle::expansion::{Expanded, answer, tree_of};
 use oracle::includes::files_of;
 use oracle::{Context, Files, Tree, Value, bundle, preprocess_typst, sheet};
@@ -13,9 +13,6 @@ pub struct Case {
     pub out: usize,
     pub left: usize,
 }
-
-/// The longest buffer that the program has.
-const LONGEST_ROOM: usize = 4096;
 
 /// The text and the sheet left, which must be the reference's, or the number.
 pub fn wanted(case: &Case) -> Result<(Vec<u8>, Vec<u8>), u8> {
@@ -52,8 +49,8 @@ pub fn record(case: &Case, wanted: &Result<(Vec<u8>, Vec<u8>), u8>) -> Record {
         Ok((out, left)) => (0, out, left),
         Err(number) => (*number, b"", b""),
     };
-    let field = |room: usize, bytes: &[u8]| [&[number][..], &word(room), bytes].concat();
-    Record::new(EXPANSION, &[&case.bundle, &case.text, &case.sheet, &field(case.out, out), &field(case.left, left)])
+    let answers = [answer_field(number, case.out, out), answer_field(number, case.left, left)];
+    Record::new(EXPANSION, &[&case.bundle, &case.text, &case.sheet, &answers[0], &answers[1]])
 }
 
 pub fn cases() -> Vec<Record> {

@@ -1,5 +1,5 @@
 //! Cases of `resolve_includes`. The texts are the Rust reference's; the numbers are 01's, as the oracle reads it.
-use crate::record::{INCLUDE, Record, word};
+use crate::record::{INCLUDE, LONGEST_ROOM, Record, answer_field};
 use oracle::includes::{answer, files_of};
 use oracle::{Files, bundle, resolve_includes};
 
@@ -10,9 +10,6 @@ pub struct Case {
     pub text: Vec<u8>,
     pub room: usize,
 }
-
-/// The longest buffer that the program has.
-const LONGEST_ROOM: usize = 4096;
 
 /// The text, which must be the reference's, or the number.
 pub fn wanted(case: &Case) -> Result<Vec<u8>, u8> {
@@ -37,7 +34,7 @@ pub fn record(case: &Case, wanted: &Result<Vec<u8>, u8>) -> Record {
         Ok(text) => (0, text),
         Err(number) => (*number, b""),
     };
-    let answer = [&[number][..], &word(case.room), text].concat();
+    let answer = answer_field(number, case.room, text);
     Record::new(INCLUDE, &[&case.bundle, &case.folder, &case.text, &answer])
 }
 

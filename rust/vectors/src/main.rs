@@ -3,18 +3,20 @@
 //!
 //!     vectors [FILE]        FILE: the lines with given answers, where they are not in their place
 
+mod definitions;
 mod edge;
 mod expansion;
 mod includes;
 mod lookups;
+mod pass;
 mod record;
 
 use record::Record;
 use std::io::{self, Write};
 use std::{env, process};
 
-/// Below the 131,072 bytes that the program reads.
-const LONGEST: usize = 130_000;
+/// Below the 196,608 bytes that the program reads.
+const LONGEST: usize = 190_000;
 const BESIDE_THE_PROJECT: &str = concat!(env!("CARGO_MANIFEST_DIR"), "/../../../shared/vectors/edge.jsonl");
 
 fn main() {
@@ -35,5 +37,9 @@ fn records(given: &str) -> io::Result<Vec<Record>> {
     all.extend(includes::cases());
     all.extend(edge::expansions(given)?);
     all.extend(expansion::cases());
+    all.extend(edge::definitions(given)?);
+    all.extend(definitions::cases());
+    all.extend(edge::passes(given)?);
+    all.extend(pass::cases());
     Ok(all)
 }

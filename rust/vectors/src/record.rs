@@ -9,6 +9,15 @@ pub const INCLUDE: u8 = 1;
 /// in 16 bits, what the call writes to its start (for `out` the text, for `left` the sheet; nothing where it is refused). The number
 /// is the same in both. `len` and `sheet_len` are how many bytes stand there; behind them the buffer is zero.
 pub const EXPANSION: u8 = 2;
+/// Fields: bundle, path, answer for `left` with the sheet, answer for `work` with nothing: all of it is zero. Each answer is as above, with
+/// the same number in both.
+pub const DEFINITIONS: u8 = 3;
+/// Fields: bundle, folder, text, sheet, answer for `middle` with nothing, answer for `out` with the text, answer for `left` with the sheet,
+/// closed. Each answer is as above, with the same number in all three; closed is one byte, 1 or 0.
+pub const PASS: u8 = 4;
+
+/// The longest buffer that the program has.
+pub const LONGEST_ROOM: usize = 4096;
 
 pub struct Record(pub Vec<u8>);
 
@@ -21,6 +30,11 @@ impl Record {
         }
         Record(bytes)
     }
+}
+
+/// The answer for one buffer: number, the buffer's length in 16 bits, what the call writes to its start.
+pub fn answer_field(number: u8, room: usize, bytes: &[u8]) -> Vec<u8> {
+    [&[number][..], &word(room), bytes].concat()
 }
 
 /// 16 bits, low byte first.
