@@ -1,9 +1,11 @@
 //! Times the proved calls on the same inputs as the Rust reference, or alone where it has no such call.
 //!
-//!     bench [NAME]        one table alone: lookups, files, includes, expansion
+//!     bench [NAME]        one table alone: lookups, files, includes, expansion, definitions, pass
 
+mod definitions;
 mod expansion;
 mod includes;
+mod pass;
 mod timing;
 
 use oracle::{Context, Files, Tree, Value, bundle, sheet};
@@ -22,8 +24,14 @@ rest    here less check
 Rust    the reference's call of that name. Its hash maps are built once, outside of the timed loop, and it checks nothing
 The output here is one lent buffer of 64 bytes, cleared by the call alone; the Rust answers a new String.";
 
-const TABLES: [(&str, fn()); 4] =
-    [("lookups", lookup_table), ("files", file_table), ("includes", includes::table), ("expansion", expansion::table)];
+const TABLES: [(&str, fn()); 6] = [
+    ("lookups", lookup_table),
+    ("files", file_table),
+    ("includes", includes::table),
+    ("expansion", expansion::table),
+    ("definitions", definitions::table),
+    ("pass", pass::table),
+];
 
 fn main() {
     if cfg!(debug_assertions) {

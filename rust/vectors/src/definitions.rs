@@ -190,7 +190,7 @@ fn rooms() -> Vec<Case> {
     all
 }
 
-const IMPORTS: [&str; 38] = [
+const IMPORTS: [&str; 39] = [
     "#import",
     "#import \"",
     "#import \"a",
@@ -220,6 +220,7 @@ const IMPORTS: [&str; 38] = [
     "#import \"a\": d\n#let x = d.k",
     "#import \"a\": m",
     "#import x \"a\": x\n#let z",
+    "#import a #let y\n#let z",
     "#import: \"a\"",
     "#imports \"a\": x",
     "#import \"n\": *\n#let z",
