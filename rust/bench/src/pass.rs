@@ -9,7 +9,7 @@ const NOTES: &str = "\
 pass (microseconds a call; the ns are nanoseconds for each byte of the text, so that two sizes of a text show the growth)
 The call here checks the bundle, the sheet and the text, and clears its three buffers: a middle and an output of just the lengths that are needed,
 and one of 65,535 bytes for the sheet. The Rust's two calls answer new Strings, check nothing, and copy the hash map of the bindings, which is built
-once. A part is the same text in closed parts of about 4 KB, one pass for each, from the sheet that the one before it left.";
+once. In parts: here a pass for each closed part of about 4 KB, from the sheet that the one before it left; the Rust over the whole text.";
 
 const SIZES: [usize; 3] = [1 << 20, 4 << 20, 16 << 20];
 const SMALL: usize = 64 << 10;

@@ -261,7 +261,8 @@ fn main_text(targets: &Targets, rng: &mut Rng) -> Vec<u8> {
     let mut text = match rng.below(3000) {
         0..2 => many(rng),
         2..5 => long(rng),
-        5..300 => strays(rng),
+        5..7 => filling(rng),
+        7..300 => strays(rng),
         300..360 => {
             let n = rng.between(8, 30);
             pieces(targets, n, rng)
@@ -299,6 +300,21 @@ fn long(rng: &mut Rng) -> Vec<u8> {
         text.extend(word(&["#let x = x + x\n", "#let y = x + \"a\" + x\n", "#let d = (k: x, a: x)\n", ""], rng));
     }
     text
+}
+
+/// A sheet of 65,534 to 65,537 bytes, by two bindings or by two keys: a file is too short to have it in one text.
+fn filling(rng: &mut Rng) -> Vec<u8> {
+    let first = 32_000;
+    let head = [b"#let x = \"".to_vec(), rng.string(b"abc", first), b"\"\n".to_vec()].concat();
+    let records = 2 * (1 + 3 + 2) + 2 * first;
+    let length = rng.between(65_534, 65_537);
+    if rng.one_in(2) {
+        let rest = rng.string(b"abc", length - records);
+        return [head, b"#let y = x + \"".to_vec(), rest, b"\"".to_vec()].concat();
+    }
+    // The dictionary takes the place of x: a map byte, the name and the count more.
+    let rest = rng.string(b"abc", length - records - (1 + 3 + 2));
+    [head, b"#let x = (k: x, l: x + \"".to_vec(), rest, b"\")".to_vec()].concat()
 }
 
 /// Hundreds of bindings or keys, ascending or not.
@@ -582,6 +598,17 @@ mod tests {
             let (files, _) = Group::new(&mut rng).files(&mut rng);
             assert!(bundle_entries(&bundle::encode(&files).unwrap()).is_some());
         }
+    }
+
+    #[test]
+    fn filling_sheets() {
+        let mut rng = Rng::new(3);
+        let mut lengths = [0; 4];
+        for _ in 0..100 {
+            let files = Files::from([(b"f".to_vec(), filling(&mut rng))]);
+            lengths[answer(Some(&files), b"f", usize::MAX, usize::MAX).longest - 65_534] += 1;
+        }
+        assert!(lengths.iter().all(|&n| n > 5), "{lengths:?}");
     }
 
     // More than 55 of 100 are accepted, everything that a file may do is done by many, and every number and level is met.
