@@ -1,6 +1,6 @@
 //! A mode is a public call or two with a generator of cases. To add one: implement `Mode` and list it in `all`.
 //! Calls of the reference that may hang run in `oracle::child::Runner`, which a mode can hold.
-use crate::case::Case;
+use crate::case::{Case, hex};
 use crate::rng::Rng;
 use std::fmt::Debug;
 
@@ -51,4 +51,20 @@ pub fn all() -> Vec<Box<dyn Mode>> {
 /// All fields of two answers.
 fn same<T: Debug + PartialEq>(call: &str, here: T, wanted: T) -> Result<(), String> {
     if here == wanted { Ok(()) } else { Err(format!("{call}: here {here:?}, wanted {wanted:?}")) }
+}
+
+/// Bytes, of which the first that differ are shown.
+fn same_bytes(what: &str, here: &[u8], wanted: &[u8]) -> Result<(), String> {
+    let at = here.iter().zip(wanted).take_while(|(a, b)| a == b).count();
+    let shown = |bytes: &[u8]| hex(&bytes[at..bytes.len().min(at + 16)]);
+    if here == wanted {
+        return Ok(());
+    }
+    Err(format!(
+        "{what}[{at}]: here {} of {} bytes, wanted {} of {}",
+        shown(here),
+        here.len(),
+        shown(wanted),
+        wanted.len()
+    ))
 }

@@ -3,13 +3,12 @@
 //! must be its output, and the last sheet and the last `closed` must be its own. Whether a part is closed is asked of `oracle::pass`; each
 //! pass, whatever the parts are, must also answer what `oracle::pass` says.
 use super::pass::{Known, Left, call, case, rooms_of};
-use super::{Mode, same};
+use super::{Mode, same, same_bytes};
 use crate::case::{Case, Form};
 use crate::passes::Group;
 use crate::rng::Rng;
 use oracle::expansion::tree_of;
 use oracle::pass::{Rooms, answer};
-use oracle::sheet;
 
 /// How many cases are made with the files and the sheet of one group.
 const USES: usize = 40;
@@ -90,9 +89,8 @@ fn agree(passes: &[Left], whole: &Left) -> Result<(), String> {
     same("the numbers of the parts", numbers, vec![0; passes.len()])?;
     let joined: Vec<u8> = passes.iter().flat_map(|pass| pass.out.iter().copied()).collect();
     let last = passes.last().ok_or("this driver: no part")?;
-    same("the outputs joined", &joined, &whole.out)?;
-    same("the last sheet", &last.sheet, &whole.sheet)?;
-    same("the last sheet's bindings", sheet::decode(&last.sheet), sheet::decode(&whole.sheet))?;
+    same_bytes("the outputs joined", &joined, &whole.out)?;
+    same_bytes("the last sheet", &last.sheet, &whole.sheet)?;
     same("closed of the last", last.closed, whole.closed)
 }
 

@@ -1,6 +1,6 @@
 //! `pass`: the accepted calls against the reference's includes and then its expansion, output and bindings; the refused ones, and whether
 //! a text is closed, against 01 as `oracle::pass` reads it.
-use super::{Mode, same};
+use super::{Mode, same, same_bytes};
 use crate::buffer::Buffer;
 use crate::bundles;
 use crate::case::{Case, Form};
@@ -139,16 +139,16 @@ pub fn call(name: &str, bundle: &[u8], folder: &[u8], text: &[u8], sheet: &[u8],
 impl Left {
     /// Is it what 01 says.
     pub fn same_as(&self, name: &str, wanted: &Answer) -> Result<(), String> {
-        let wanted = match &wanted.result {
-            Ok(passed) => Left {
-                number: 0,
-                out: passed.out.clone(),
-                sheet: sheet::encode(&passed.left).ok_or("this driver: bindings that fit no sheet")?,
-                closed: passed.closed,
-            },
-            Err(number) => Left { number: *number, out: vec![], sheet: vec![], closed: false },
+        let (number, out, left, closed) = match &wanted.result {
+            Ok(Passed { out, left, closed }) => (0, &out[..], sheet::encode(left), *closed),
+            Err(number) => (*number, &b""[..], Some(vec![]), false),
         };
-        same(name, self, &wanted)
+        let left = left.ok_or("this driver: bindings that fit no sheet")?;
+        let shape = |out: &[u8], left: &[u8], number, closed| (number, out.len(), left.len(), closed);
+        let here = shape(&self.out, &self.sheet, self.number, self.closed);
+        same(&format!("{name}: number, lengths, closed"), here, shape(out, &left, number, closed))?;
+        same_bytes(&format!("{name}: out"), &self.out, out)?;
+        same_bytes(&format!("{name}: left"), &self.sheet, &left)
     }
 }
 
