@@ -226,8 +226,8 @@ fn chain(files: &mut Files, folder: &[u8], rng: &mut Rng) {
             binding(&mut text, rng);
         }
         if i < count {
-            let names = if rng.one_in(3) { &b"x, y, d"[..] } else { b"*" };
-            text.extend([b"#import \"", names_of(i + 1).as_bytes(), b"\": ", names, b"\n"].concat());
+            let bound = if rng.one_in(3) { &b"x, y, d"[..] } else { b"*" };
+            text.extend([b"#import \"", names[i].as_bytes(), b"\": ", bound, b"\n"].concat());
         } else if rng.one_in(3) {
             text.extend(word(&LAST_LINKS, rng));
         }
@@ -236,10 +236,6 @@ fn chain(files: &mut Files, folder: &[u8], rng: &mut Rng) {
         }
         files.insert(path(&names[i - 1]), text);
     }
-}
-
-fn names_of(i: usize) -> String {
-    i.to_string()
 }
 
 fn content(targets: &Targets, rng: &mut Rng) -> Vec<u8> {

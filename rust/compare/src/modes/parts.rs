@@ -46,7 +46,7 @@ impl Mode for Parts {
         let whole = answer(known.files.as_ref(), &folder, &text, known.tree.as_ref(), Rooms::WIDE);
         let enough = Rooms { middle: whole.middle, out: whole.written, left: whole.longest };
         let case = case(bundle.clone(), folder, text, sheet.clone(), rooms(enough, rng));
-        case.input("cuts", Form::Plain, cuts.iter().flat_map(|&at| (at as u16).to_le_bytes()).collect())
+        case.input("cuts", Form::Plain, cuts.iter().flat_map(|&at| (at as u32).to_le_bytes()).collect())
     }
 
     fn run(&mut self, case: &Case) -> Result<&'static str, String> {
@@ -121,7 +121,6 @@ fn joined_parts(group: &Group, known: &Known, folder: &[u8], rng: &mut Rng) -> (
 /// A text, and where it is cut: behind newlines, or anywhere.
 fn cut_text(group: &Group, folder: &[u8], rng: &mut Rng) -> (Vec<u8>, Vec<usize>) {
     let text = group.text(folder, rng);
-    let text = text[..text.len().min(60_000)].to_vec();
     let newlines: Vec<usize> = (1..=text.len()).filter(|&i| text[i - 1] == b'\n').collect();
     let anywhere = newlines.is_empty() || rng.one_in(3);
     let place = |rng: &mut Rng| if anywhere { rng.below(text.len() + 1) } else { *rng.pick(&newlines) };
@@ -130,10 +129,10 @@ fn cut_text(group: &Group, folder: &[u8], rng: &mut Rng) -> (Vec<u8>, Vec<usize>
     (text, cuts)
 }
 
-/// The parts of a text that is cut at these places, 16 bits each; a place behind the end is the end. One part or more.
+/// The parts of a text that is cut at these places, 32 bits each; a place behind the end is the end. One part or more.
 fn parts<'a>(text: &'a [u8], cuts: &[u8]) -> Vec<&'a [u8]> {
-    let place = |pair: &[u8]| usize::from(u16::from_le_bytes([pair[0], pair[1]])).min(text.len());
-    let mut places: Vec<usize> = cuts.chunks_exact(2).map(place).collect();
+    let place = |four: &[u8; 4]| (u32::from_le_bytes(*four) as usize).min(text.len());
+    let mut places: Vec<usize> = cuts.as_chunks().0.iter().map(place).collect();
     places.extend([0, text.len()]);
     places.sort_unstable();
     places.windows(2).map(|pair| &text[pair[0]..pair[1]]).collect()
@@ -185,8 +184,8 @@ mod tests {
 
     #[test]
     fn parts_of_a_text() {
-        assert_eq!(parts(b"abc", b"\x01\0\x09\0\x01\0"), [&b"a"[..], b"", b"bc", b""]);
-        assert_eq!(parts(b"abc", b"\x01"), [b"abc"]);
+        assert_eq!(parts(b"abc", b"\x01\0\0\0\x09\0\0\0\x01\0\0\0"), [&b"a"[..], b"", b"bc", b""]);
+        assert_eq!(parts(b"abc", b"\x01\0"), [b"abc"]);
         assert_eq!(parts(b"", b""), [b""]);
     }
 
