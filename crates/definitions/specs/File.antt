@@ -19,19 +19,20 @@ use Rattle.rules.specs.Files.{View}
 use Rattle.rules.specs.Sheet.{Records, end, encode, sheetLength, goodRecords}
 use Rattle.rules.specs.Definitions.{Names, names, bound, importStep, letStep, definitionStep}
 use Rattle.rules.specs.Imports.{bindNames, imported, fileSheet, importedSheet}
-use Rattle.rules.specs.Laws.Enough.{run-at}
+use Rattle.rules.specs.Laws.Enough.{run-at, run-first}
 use Rattle.scan.specs.Sets.{part, Spans, Starts, notByte}
 use Rattle.scan.specs.Laws.{mark-yes, mark-no, mark-of, skip-at}
 use Rattle.scan.specs.Stretches.{spans-but}
 use Rattle.buffers.specs.Laws.{take-sets, stored-first}
 use Rattle.buffers.specs.Emits.{guard, guarded, limited-guarded}
 use Rattle.sheet.specs.Find.{IsSheet}
-use Rattle.sheet.specs.Use.{Holds, holds-sheet}
+use Rattle.sheet.specs.Mark.{Mark, mark-start}
+use Rattle.sheet.specs.Use.{Holds, holds-sheet, Keeps, keeps-holds}
 use Rattle.sheet.specs.declared.bind.Bound.{Bound}
 use Rattle.sheet.specs.declared.bind.Bound.the-variants.{Over, Length}
 use Rattle.values.specs.Values.{slots, Room, room-two, room-behind, lent, lent-size, lent-first}
 use Rattle.definitions.specs.Names.{Ready, Came, BindsNames}
-use Rattle.definitions.specs.Steps.{Keeps, Bound-so, Comes, DefinesLet, within}
+use Rattle.definitions.specs.Steps.{Comes, DefinesLet, within}
 use Rattle.definitions.specs.Import.{comesTo, ImportsAt}
 use Rattle.definitions.specs.declared.steps.Stepped.{Stepped}
 use Rattle.definitions.specs.declared.files.Parsed.{Parsed}
@@ -39,20 +40,21 @@ use Rattle.definitions.specs.declared.imports.Target.{Target}
 use Rattle.definitions.specs.declared.imports.Target.the-variants.{Nothing, Refused, File as Found-at}
 use Rattle.definitions.specs.declared.imports.Imported.{Imported}
 
-abbrev pub stepped : Bool → ℕ → ℕ → ℕ → Stepped
-stepped o k at len = record { ok = o; number = k; at = at; len = len }
+abbrev pub stepped : Bool → ℕ → ℕ → ℕ → ℕ → Stepped
+stepped o k at len last = record { ok = o; number = k; at = at; len = len; last = last }
 
 -- A step that came to a binding: 9, or the sheet's new length.
 unfoldable pub boundStep : Bound → ℕ → ℕ → Stepped
-boundStep Over at n = stepped false 9 at n
-boundStep (Length len) at n = stepped true 0 at len
+boundStep Over at n = stepped false 9 at n 0
+boundStep (Length len) at n = stepped true 0 at len 0
 
--- The step f at a place, for the records in the first n bytes of l, which leaves m.
+-- The step f at a place, for the records in the first n bytes of l, which leaves m; the next step may search from r .last.
 pub record Steps (limit : ℕ) (f : Step Records) (t : List ℕ) (at : ℕ) (l : List ℕ) (n : ℕ) (m : List ℕ) (r : Stepped) : Type 0 where
   pub size : length m ≡ length l
   pub on : at < r .at
   pub inside : r .at ≤ length t
   pub does : (s : Records) → Holds s l n limit → Comes limit (f s (drop at t)) t m r
+  pub mark : r .ok ≡ true → Mark (take (r .len) m) (r .last)
 
 -- A sheet in the first m bytes of l, and one that is saved in the first n bytes of w.
 pub record Swap (l : List ℕ) (m : ℕ) (w : List ℕ) (n limit : ℕ) : Type 0 where
@@ -77,30 +79,27 @@ pub record Parses (limit : ℕ) (a : Answer Records) (l c w o : List ℕ) (r : P
   pub goes : r .ok ≡ true → (s : Records) × (a ≡ accepted s) × Holds s c (r .len) limit
 
 -- LAWS. The same answer.
-pub starts-as : {m t : List ℕ} {i : ℕ} {r c : Bool} → Starts m t i r → r ≡ c → Starts m t i c
-starts-as s e = rw e at s
-
 pub steps-as : {limit : ℕ} {f : Step Records} {t : List ℕ} {at : ℕ} {l : List ℕ} {n : ℕ} {m : List ℕ} {r q : Stepped} → r ≡ q → Steps limit f t at l n m q → Steps limit f t at l n m r
 steps-as e h = rw e h
 
-pub over-step : {o : Bound} {at n : ℕ} {r : Stepped} → o ≡ Over → r ≡ stepped false 9 at n → r ≡ boundStep o at n
+pub over-step : {o : Bound} {at n : ℕ} {r : Stepped} → o ≡ Over → r ≡ stepped false 9 at n 0 → r ≡ boundStep o at n
 unfolding boundStep
 over-step e h = h ∙ rw e refl
 
-pub length-step : {o : Bound} {at m : ℕ} (n : ℕ) {r : Stepped} → o ≡ Length m → r ≡ stepped true 0 at m → r ≡ boundStep o at n
+pub length-step : {o : Bound} {at m : ℕ} (n : ℕ) {r : Stepped} → o ≡ Length m → r ≡ stepped true 0 at m 0 → r ≡ boundStep o at n
 unfolding boundStep
 length-step n e h = h ∙ rw e refl
 
 -- A step that keeps the sheet, one that is refused, and one that leaves another sheet.
 module _ {limit : ℕ} {d : Did Records × List ℕ} {t : List ℕ} {s : Records} {l : List ℕ} {n : ℕ} (h : Holds s l n limit) (at : ℕ) where
-  comes-kept : d ≡ (bound s (accepted s), drop at t) → Comes limit d t l (stepped true 0 at n)
+  comes-kept : {last : ℕ} → d ≡ (bound s (accepted s), drop at t) → Comes limit d t l (stepped true 0 at n last)
   unfolding bound
   comes-kept e = record {
     goes = λ z. record { emits = ap (λ q. q .0 .emit) e; rest = ap (λ q. q .1) e; holds = subst (λ q. Holds q l n limit) (sym (ap (λ q. q .0 .state) e)) h };
     stops = λ z. absurd (true≢false z);
   }
 
-  comes-refused : {k len : ℕ} {m : List ℕ} → d ≡ (bound s (refused k), drop at t) → Comes limit d t m (stepped false k at len)
+  comes-refused : {k len last : ℕ} {m : List ℕ} → d ≡ (bound s (refused k), drop at t) → Comes limit d t m (stepped false k at len last)
   unfolding bound
   comes-refused {k} e = record {
     goes = λ z. absurd (true≢false (sym z));
@@ -119,14 +118,15 @@ module _ {limit : ℕ} {d : Did Records × List ℕ} {t : List ℕ} {s : Records
       }
 
 -- At a place where no `#import` stands, by whether a `//` or a `#let` does.
-module _ (limit : ℕ) {t : List ℕ} {at : ℕ} (there : at < length t) {p : Bool} (P : Starts (bytes "#import") t at p) (np : p ≡ false) {c : Bool} (C : Starts (bytes "//") t at c) (i : Records → List ℕ → Names → Answer Records) {l : List ℕ} {n : ℕ} where
-  pub other-comment : c ≡ true → {e : ℕ} → Spans (notByte 10) t (at + 2) e → Steps limit (definitionStep limit i) t at l n l (stepped true 0 e n)
+module _ (limit : ℕ) {t : List ℕ} {at : ℕ} (there : at < length t) {p : Bool} (P : Starts (bytes "#import") t at p) (np : p ≡ false) {c : Bool} (C : Starts (bytes "//") t at c) (i : Records → List ℕ → Names → Answer Records) {l : List ℕ} {n last : ℕ} (M : Mark (take n l) last) where
+  pub other-comment : c ≡ true → {e : ℕ} → Spans (notByte 10) t (at + 2) e → Steps limit (definitionStep limit i) t at l n l (stepped true 0 e n last)
   unfolding definitionStep Reader._>>=_ Reader._>>_ Reader.ifR Reader.ret
   other-comment y X = record {
     size = refl;
     on = omega (arith, X .on);
     inside = X .inside;
     does = λ s h. comes-kept h _ (rw (mark-yes C y, spans-but "\n" X .rest) refl);
+    mark = λ z. M;
   }
 
   module _ (nc : c ≡ false) {d : Bool} (D : Starts (bytes "#let") t at d) where
@@ -137,15 +137,17 @@ module _ (limit : ℕ) {t : List ℕ} {at : ℕ} (there : at < length t) {p : Bo
       on = omega (arith, L .on);
       inside = L .inside;
       does = λ s h. subst (λ x. Comes limit x t m r) (sym (rw (mark-no C nc, mark-no P np, mark-yes D y) refl)) (L .does i s h);
+      mark = L .mark;
     }
 
-    pub other-skip : d ≡ false → Steps limit (definitionStep limit i) t at l n l (stepped true 0 (at + 1) n)
+    pub other-skip : d ≡ false → Steps limit (definitionStep limit i) t at l n l (stepped true 0 (at + 1) n last)
     unfolding definitionStep Reader._>>=_ Reader._>>_ Reader.ifR Reader.ret
     other-skip nd = record {
       size = refl;
       on = omega arith;
       inside = omega arith;
       does = λ s h. comes-kept h _ (rw (mark-no C nc, mark-no P np, mark-no D nd, skip-at t at there) refl);
+      mark = λ z. M;
     }
 
 -- A `#import` is no `//`.
@@ -162,23 +164,24 @@ module _ (limit levels : ℕ) (v : View) (b g : List ℕ) {t : List ℕ} {at : �
   import-at s = rw (mark-of (bytes "//") (drop at t) false (no-comment (drop at t) (P .says ∙ y)), mark-yes P y) (I .does limit s)
 
   -- By what the import comes to.
-  import-steps : {c : List ℕ} {r : Stepped} → length c ≡ length l → r .at ≡ m .next →
+  import-steps : {c : List ℕ} {r : Stepped} → length c ≡ length l → r .at ≡ m .next → (r .ok ≡ true → Mark (take (r .len) c) (r .last)) →
       ((s : Records) → Holds s l n limit → Comes limit (bound s (comesTo limit v levels b (m .path) (m .target) s (names (drop (m .names) t) .0)), drop (m .next) t) t c r) →
       Steps limit (definitionStep limit (imported limit v (importedSheet limit v levels) g)) t at l n c r
-  import-steps {c} {r} z e f = record {
+  import-steps {c} {r} z e k f = record {
     size = z;
     on = omega (arith, I .on);
     inside = omega (arith, I .inside);
     does = λ s h. subst (λ x. Comes limit x t c r) (sym (import-at s)) (f s h);
+    mark = k;
   }
 
-  pub import-nothing : m .target ≡ Nothing → Steps limit (definitionStep limit (imported limit v (importedSheet limit v levels) g)) t at l n l (stepped true 0 (m .next) n)
+  pub import-nothing : {last : ℕ} → Mark (take n l) last → m .target ≡ Nothing → Steps limit (definitionStep limit (imported limit v (importedSheet limit v levels) g)) t at l n l (stepped true 0 (m .next) n last)
   unfolding comesTo
-  import-nothing e = import-steps refl refl (λ s h. comes-kept h _ (rw e refl))
+  import-nothing M e = import-steps refl refl (λ z. M) (λ s h. comes-kept h _ (rw e refl))
 
-  pub import-refused : {k : ℕ} → m .target ≡ Refused k → Steps limit (definitionStep limit (imported limit v (importedSheet limit v levels) g)) t at l n l (stepped false k (m .next) n)
+  pub import-refused : {k : ℕ} → m .target ≡ Refused k → Steps limit (definitionStep limit (imported limit v (importedSheet limit v levels) g)) t at l n l (stepped false k (m .next) n 0)
   unfolding comesTo
-  import-refused e = import-steps refl refl (λ s h. comes-refused h _ (rw e refl))
+  import-refused e = import-steps refl refl (λ z. absurd (true≢false (sym z))) (λ s h. comes-refused h _ (rw e refl))
 
   -- A file, which is read into c.
   module _ {a e q : ℕ} (z : m .target ≡ Found-at a e q) {c x o : List ℕ} {r : Parsed} (Z : Parses limit (fileSheet limit v (importedSheet limit v (levels - 1)) (take q (m .path)) (part b a e)) l c x o r) where
@@ -187,21 +190,28 @@ module _ (limit levels : ℕ) (v : View) (b g : List ℕ) {t : List ℕ} {at : �
     unfolding comesTo
     file-comes s x f = rw (z, f) refl
 
-    pub import-stopped : r .ok ≡ false → Steps limit (definitionStep limit (imported limit v (importedSheet limit v levels) g)) t at l n c (stepped false (r .number) (m .next) n)
+    pub import-stopped : r .ok ≡ false → Steps limit (definitionStep limit (imported limit v (importedSheet limit v levels) g)) t at l n c (stepped false (r .number) (m .next) n 0)
     unfolding _>>=_
-    import-stopped f = import-steps (Z .size) refl (λ s h. comes-refused h _ (file-comes s _ (Z .stops f)))
+    import-stopped f = import-steps (Z .size) refl (λ z. absurd (true≢false (sym z))) (λ s h. comes-refused h _ (file-comes s _ (Z .stops f)))
 
     -- The names are bound in the sheet that was saved in w.
-    pub import-bound : r .ok ≡ true → {w : List ℕ} {c₂ : List ℕ} {o : Bound} → take n w ≡ take n l → BindsImported limit (names (drop (m .names) t) .0) c (r .len) w n c₂ o →
-        Steps limit (definitionStep limit (imported limit v (importedSheet limit v levels) g)) t at l n c₂ (boundStep o (m .next) n)
-    unfolding _>>=_
-    import-bound f {w} {c₂} {o} j B =
-        let x = Z .goes f in
-        import-steps (B .size ∙ Z .size) (bound-at o) (λ s h. comes-bound h _ o (file-comes s _ (x .1)) (B .binds s (x .0) (record { bytes = j ∙ h .bytes; long = h .long; fits = h .fits; good = h .good }) (x .2)))
-      where
-        bound-at : (o : Bound) → boundStep o (m .next) n .at ≡ m .next
-        bound-at Over = unfold boundStep in refl
-        bound-at (Length k) = unfold boundStep in refl
+    module _ (f : r .ok ≡ true) {w : List ℕ} {c₂ : List ℕ} {d : Bound} (j : take n w ≡ take n l) (B : BindsImported limit (names (drop (m .names) t) .0) c (r .len) w n c₂ d) where
+      came : {s : Records} → Holds s l n limit → Came limit (bindNames limit s (Z .goes f .0) (names (drop (m .names) t) .0)) c₂ d
+      came {s} h = B .binds s (Z .goes f .0) (record { bytes = j ∙ h .bytes; long = h .long; fits = h .fits; good = h .good }) (Z .goes f .2)
+
+      bound-at : (d : Bound) → boundStep d (m .next) n .at ≡ m .next
+      unfolding boundStep
+      bound-at Over = refl
+      bound-at (Length k) = refl
+
+      bound-mark : (d : Bound) {a : Answer Records} → Came limit a c₂ d → boundStep d (m .next) n .ok ≡ true → Mark (take (boundStep d (m .next) n .len) c₂) (boundStep d (m .next) n .last)
+      unfolding boundStep
+      bound-mark Over h z = absurd (true≢false (sym z))
+      bound-mark (Length k) h z = mark-start (holds-sheet (h .bound k refl .2))
+
+      pub import-bound : Keeps l n limit → Steps limit (definitionStep limit (imported limit v (importedSheet limit v levels) g)) t at l n c₂ (boundStep d (m .next) n)
+      unfolding _>>=_
+      import-bound K = import-steps (B .size ∙ Z .size) (bound-at d) (bound-mark d (came (keeps-holds K))) (λ s h. comes-bound h _ d (file-comes s _ (Z .goes f .1)) (came h))
 
 -- SHEETS that change places: w₁ is w with the sheet of l behind the limit, l₁ is l with the sheet of w.
 module _ {l : List ℕ} {m : ℕ} {w : List ℕ} {n limit : ℕ} (k : Swap l m w n limit) where
@@ -249,13 +259,6 @@ module _ {l : List ℕ} {m : ℕ} {w : List ℕ} {n limit : ℕ} (k : Swap l m w
     binds = λ s r h g. B .binds (record { r = s; bytes = saved ∙ h .bytes; good = h .good }) (record { r = r; bytes = other ∙ g .bytes; good = g .good });
   }
 
--- The first step of a run.
-run-first : {S : Type 0} (f : Step S) (s : S) (t : List ℕ) (i : ℕ) → i < length t → (u : Trace S) × (run f s 0 (drop i t) ≡ step (f s (drop i t) .0) u)
-unfolding run
-run-first f s t i h =
-    let c : drop i t ≡ getD t i 0 ∷ drop (suc i) t = drop-cons t i 0 h in
-    rw c (_, refl)
-
 -- A LIMITED RUN, one step at a time.
 module _ {S : Type 0} (size : S → ℕ) (L full : ℕ) where
   limited-stops : (r k : ℕ) (d : Did S) (t : Trace S) → guard size L d ≡ fail k → limited size L full r (step d t) ≡ refused k
@@ -270,22 +273,23 @@ module _ {S : Type 0} (size : S → ℕ) (L full : ℕ) where
       at (accepted p) = unfold _>>=_ in refl
 
 -- A FILE, of which the text up to i is read.
-pub record Parsing (limit : ℕ) (f : Step Records) (t l c : List ℕ) (i len : ℕ) : Type 0 where
+pub record Parsing (limit : ℕ) (f : Step Records) (t l c : List ℕ) (i len last : ℕ) : Type 0 where
   pub inside : i ≤ length t
   pub size : length c ≡ length l
   pub s : Records
   pub holds : Holds s c len limit
   pub is : limited sheetLength limit 11 0 (run f end 0 t) ≡ limited sheetLength limit 11 0 (run f s 0 (drop i t))
+  pub mark : Mark (take len c) last
 
-pub parsing-start : (limit : ℕ) (f : Step Records) (t l : List ℕ) → Parsing limit f t l l 0 0
+pub parsing-start : (limit : ℕ) (f : Step Records) (t l : List ℕ) → Parsing limit f t l l 0 0 0
 unfolding encode sheetLength goodRecords
-parsing-start limit f t l = record { inside = omega arith; size = refl; s = end; holds = record { bytes = refl; long = refl; fits = omega arith; good = refl }; is = refl }
+parsing-start limit f t l = record { inside = omega arith; size = refl; s = end; holds = record { bytes = refl; long = refl; fits = omega arith; good = refl }; is = refl; mark = mark-start (record { r = end; bytes = refl; good = refl }) }
 
-module _ {limit : ℕ} {f : Step Records} {t l c : List ℕ} {i len : ℕ} (Q : Parsing limit f t l c i len) where
+module _ {limit : ℕ} {f : Step Records} {t l c : List ℕ} {i len last : ℕ} (Q : Parsing limit f t l c i len last) where
   pub parsing-keeps : limit ≤ length l → limit ≤ 65535 → Keeps c len limit
   parsing-keeps h k = record { fits = Q .holds .fits; room = omega (arith, Q .size); most = k; sheet = holds-sheet (Q .holds) }
 
-  pub parsing-on : {m : List ℕ} {r : Stepped} → Steps limit f t i c len m r → r .ok ≡ true → Parsing limit f t l m (r .at) (r .len)
+  pub parsing-on : {m : List ℕ} {r : Stepped} → Steps limit f t i c len m r → r .ok ≡ true → Parsing limit f t l m (r .at) (r .len) (r .last)
   parsing-on {m} {r} S y =
       let b = S .does (Q .s) (Q .holds) .goes y in
       record {
@@ -295,6 +299,7 @@ module _ {limit : ℕ} {f : Step Records} {t l c : List ℕ} {i len : ℕ} (Q : 
         holds = b .holds;
         is = Q .is ∙ ap (limited sheetLength limit 11 0) (run-at f t (Q .s) i (r .at) (S .on) (S .inside) (b .rest))
             ∙ limited-goes sheetLength limit 11 0 (f (Q .s) (drop i t) .0) _ (b .emits) (omega (arith, b .holds .long, b .holds .fits));
+        mark = S .mark y;
       }
 
   parsing-no : {m : List ℕ} {r : Stepped} → Steps limit f t i c len m r → r .ok ≡ false → i < length t → limited sheetLength limit 11 0 (run f end 0 t) ≡ refused (r .number)
@@ -307,7 +312,7 @@ module _ {limit : ℕ} {f : Step Records} {t l c : List ℕ} {i len : ℕ} (Q : 
   parsing-done h = Q .is ∙ ap (λ x. limited sheetLength limit 11 0 (run f (Q .s) 0 x)) (drop-of-length-le t h)
 
 -- What a file came to.
-module _ (limit levels : ℕ) (v : View) (g : List ℕ) {t l c : List ℕ} {i len : ℕ} (a : all ascii t ≡ true) (Q : Parsing limit (definitionStep limit (imported limit v (importedSheet limit v levels) g)) t l c i len) where
+module _ (limit levels : ℕ) (v : View) (g : List ℕ) {t l c : List ℕ} {i len last : ℕ} (a : all ascii t ≡ true) (Q : Parsing limit (definitionStep limit (imported limit v (importedSheet limit v levels) g)) t l c i len last) where
   pub parsed-no : {m : List ℕ} {r : Stepped} → Steps limit (definitionStep limit (imported limit v (importedSheet limit v levels) g)) t i c len m r → r .ok ≡ false → i < length t → {w o : List ℕ} → length o ≡ length w →
       Parses limit (fileSheet limit v (importedSheet limit v levels) g t) l m w o (record { ok = false; number = r .number; len = 0 })
   unfolding fileSheet check _>>_ _>>=_

@@ -6,7 +6,6 @@ use Prim.Native.Nat.{ℕ, _+_, _≤_, _<_}
 use native.Mathlib.Omega.{arith}
 use lib.Dec.{leb}
 use lib.ListN.{length, take, drop, take-append-drop}
-use lib.Seq.{length-take-le}
 use borrow.Author.Tests.{le-leb, lt-leb}
 use Rattle.rules.specs.Answer.{Answer, refused, accepted}
 use Rattle.rules.specs.Reader.{ret, ifR, _>>=_, _>>_, bytes, either, all, mark, prefix}
@@ -25,33 +24,22 @@ use Rattle.sheet.specs.Find.{IsSheet}
 use Rattle.sheet.specs.Place.{Between}
 use Rattle.sheet.specs.Mark.{Mark, Marked, mark-of}
 use Rattle.sheet.specs.Write.{IsSource, BindsAt}
-use Rattle.sheet.specs.Use.{Holds, holds-sheet, leaves-bytes, leaves-over}
+use Rattle.sheet.specs.Use.{Holds, holds-sheet, Keeps, keeps-holds, leaves-bytes, leaves-over}
 use Rattle.sheet.specs.declared.bind.Put.{Put}
 use Rattle.sheet.specs.declared.bind.Bound.the-variants.{Over, Length}
 use Rattle.values.specs.declared.Valued.{Valued}
 use Rattle.values.specs.Values.{Taken, ReadsValue}
 use Rattle.definitions.specs.declared.steps.Stepped.{Stepped}
 
--- The first n bytes of l are a sheet, which may grow up to the limit.
-pub record Keeps (l : List ℕ) (n limit : ℕ) : Type 0 where
-  pub fits : n ≤ limit
-  pub room : limit ≤ length l
-  pub most : limit ≤ 65535
-  pub sheet : IsSheet (take n l)
-
-pub keeps-holds : {l : List ℕ} {n limit : ℕ} (k : Keeps l n limit) → Holds (k .sheet .r) l n limit
-unfolding sheetLength
-keeps-holds {l} {n} k = record { bytes = k .sheet .bytes; long = sym (ap length (sym (k .sheet .bytes)) ∙ length-take-le n l (omega (arith, k .fits, k .room))); fits = k .fits; good = k .sheet .good }
-
 -- The step d binds, and m holds what it leaves.
-pub record Bound-so (limit : ℕ) (d : Did Records × List ℕ) (t m : List ℕ) (r : Stepped) : Type 0 where
+pub record Leaves (limit : ℕ) (d : Did Records × List ℕ) (t m : List ℕ) (r : Stepped) : Type 0 where
   pub emits : d .0 .emit ≡ ok
   pub rest : d .1 ≡ drop (r .at) t
   pub holds : Holds (d .0 .state) m (r .len) limit
 
 -- The step d, or its refusal.
 pub record Comes (limit : ℕ) (d : Did Records × List ℕ) (t m : List ℕ) (r : Stepped) : Type 0 where
-  pub goes : r .ok ≡ true → Bound-so limit d t m r
+  pub goes : r .ok ≡ true → Leaves limit d t m r
   pub stops : r .ok ≡ false → guard sheetLength limit (d .0) ≡ fail (r .number)
 
 -- `#let` from `at` on, for the records in the first n bytes of l, which leaves m; the next step may search from where its record was put.

@@ -8,7 +8,7 @@ use sheet::bind::Bound;
 ghost use mathlib.Core.Path.{_≡_};
 ghost use mathlib.Core.Bool.{true, false};
 ghost use Prim.Native.Nat.{ℕ, _+_, _≤_, _<_};
-ghost use lib.ListN.{length, drop};
+ghost use lib.ListN.{length, take, drop};
 ghost use Rattle.rules.specs.Reader.{all, bytes};
 ghost use Rattle.rules.specs.Bytes.{ascii};
 ghost use Rattle.rules.specs.Bundle.{bundleOf};
@@ -22,18 +22,20 @@ ghost use Rattle.rules.specs.Laws.Bool.{isSome};
 ghost use Rattle.scan.specs.Sets.{Starts};
 ghost use Rattle.bundle.specs.Find.{entriesOf};
 ghost use Rattle.values.specs.Values.{Room};
-ghost use Rattle.definitions.specs.Steps.{Keeps};
+ghost use Rattle.sheet.specs.Use.{Keeps};
+ghost use Rattle.sheet.specs.Mark.{Mark};
 ghost use Rattle.definitions.specs.File.{stepped, boundStep, Steps, Swap, BindsImported, Parses};
 
 // A step that goes on at a place, or is refused.
-fn ended(ok: bool, number: u8, at: usize, len: usize) -> Stepped
-    ensures { λ r. ⌜ r ≡ stepped ok number at len ⌝ }
+fn ended(ok: bool, number: u8, at: usize, len: usize, last: usize) -> Stepped
+    ensures { λ r. ⌜ r ≡ stepped ok number at len last ⌝ }
 {
     Stepped {
         ok: ok,
         number: number,
         at: at,
         len: len,
+        last: last,
     }
 }
 
@@ -43,19 +45,20 @@ fn other_step(
     at: usize,
     left: &mut [u8],
     n: usize,
+    last: usize,
     limit: usize,
     work: &mut [u8],
 ) -> Stepped
-    requires { ⌜ (at < length (now text)) × (all ascii (now text) ≡ true) × Starts (bytes "#import") (now text) at false × Keeps (now left) n limit × Room (now work) limit 6 ⌝ }
+    requires { ⌜ (at < length (now text)) × (all ascii (now text) ≡ true) × Starts (bytes "#import") (now text) at false × Keeps (now left) n limit × Room (now work) limit 6 × Mark (take n (now left)) last ⌝ }
     ensures { λ r. ⌜ (length (now (work .exit)) ≡ length (now (work .entry))) × ((i : Records → List ℕ → Names → Answer Records) → Steps limit (definitionStep limit i) (now (text .entry)) at (now (left .entry)) n (now (left .exit)) r) ⌝ }
 {
     if scan::starts_with(text, at, b"//") {
-        return ended(true, 0, scan::find(text, at + 2, b'\n'), n);
+        return ended(true, 0, scan::find(text, at + 2, b'\n'), n, last);
     }
     if scan::starts_with(text, at, b"#let") {
-        return let_step(text, at + 4, left, n, limit, work);
+        return let_step(text, at + 4, left, n, last, limit, work);
     }
-    ended(true, 0, at + 1, n)
+    ended(true, 0, at + 1, n, last)
 }
 
 // Binds the names that stand at a place, of the sheet in the first m bytes of `left`, in the one that is saved in the first n bytes of `work`. That
@@ -83,8 +86,8 @@ fn bound_step(bound: Bound, at: usize, n: usize) -> Stepped
     ensures { λ r. ⌜ r ≡ boundStep bound at n ⌝ }
 {
     match bound {
-        Bound::Over => ended(false, 9, at, n),
-        Bound::Length(len) => ended(true, 0, at, len),
+        Bound::Over => ended(false, 9, at, n, 0),
+        Bound::Length(len) => ended(true, 0, at, len, 0),
     }
 }
 
@@ -95,7 +98,7 @@ pub struct Parsed {
     pub len: usize,
 }
 
-// One step of a file of definitions, with the sheet in the first n bytes of `left`.
+// One step of a file of definitions, with the sheet in the first n bytes of `left`; the last record was put at `last`.
 fn step(
     b: &[u8],
     folder: &[u8],
@@ -103,15 +106,16 @@ fn step(
     at: usize,
     left: &mut [u8],
     n: usize,
+    last: usize,
     limit: usize,
     work: &mut [u8],
     levels: usize,
 ) -> Stepped
-    requires { ⌜ (isSome (bundleOf (now b)) ≡ true) × (at < length (now text)) × (all ascii (now text) ≡ true) × Keeps (now left) n limit × Room (now work) limit (levels + 6) ⌝ }
+    requires { ⌜ (isSome (bundleOf (now b)) ≡ true) × (at < length (now text)) × (all ascii (now text) ≡ true) × Keeps (now left) n limit × Room (now work) limit (levels + 6) × Mark (take n (now left)) last ⌝ }
     ensures { λ r. ⌜ (length (now (work .exit)) ≡ length (now (work .entry))) × Steps limit (definitionStep limit (imported limit (view (entriesOf (now (b .entry)))) (importedSheet limit (view (entriesOf (now (b .entry)))) levels) (now (folder .entry)))) (now (text .entry)) at (now (left .entry)) n (now (left .exit)) r ⌝ }
 {
     if !scan::starts_with(text, at, b"#import") {
-        return other_step(text, at, left, n, limit, work);
+        return other_step(text, at, left, n, last, limit, work);
     }
     let m = find_import(b, folder, text, at + 7, levels);
     let target = m.target;
@@ -119,8 +123,8 @@ fn step(
     let list = m.names;
     let next = m.next;
     match target {
-        Target::Nothing => ended(true, 0, next, n),
-        Target::Refused(k) => ended(false, k, next, n),
+        Target::Nothing => ended(true, 0, next, n, last),
+        Target::Refused(k) => ended(false, k, next, n, 0),
         Target::File { start, end, parent } => {
             buffers::store(work, 0, &left[..n]);
             let r = parse(
@@ -133,7 +137,7 @@ fn step(
                 levels - 1,
             );
             if !r.ok {
-                return ended(false, r.number, next, n);
+                return ended(false, r.number, next, n, 0);
             }
             let bound = bind_imported(text, list, r.len, left, n, limit, work);
             bound_step(bound, next, n)
@@ -156,8 +160,9 @@ pub fn parse(
 {
     let mut i: usize = 0;
     let mut len: usize = 0;
+    let mut last: usize = 0;
     while i < text.len() {
-        let s = step(b, folder, text, i, left, len, limit, work, levels);
+        let s = step(b, folder, text, i, left, len, last, limit, work, levels);
         if !s.ok {
             return Parsed {
                 ok: false,
@@ -167,6 +172,7 @@ pub fn parse(
         }
         i = s.at;
         len = s.len;
+        last = s.last;
     }
     Parsed {
         ok: true,

@@ -9,7 +9,8 @@ ghost use Rattle.rules.specs.Reader.{all};
 ghost use Rattle.rules.specs.Bytes.{ascii};
 ghost use Rattle.sheet.specs.Mark.{Mark};
 ghost use Rattle.values.specs.Values.{Room};
-ghost use Rattle.definitions.specs.Steps.{Keeps, DefinesLet};
+ghost use Rattle.sheet.specs.Use.{Keeps};
+ghost use Rattle.definitions.specs.Steps.{DefinesLet};
 
 // What a step came to: is nothing refused; if something is, the refusal's number; where reading goes on, the sheet's length, and where
 // its last record was put, for the next step to search from; 0 if something is refused.

@@ -16,7 +16,7 @@ use Rattle.rules.specs.Sheet.{Records, sheetLength}
 use Rattle.rules.specs.Expansion.{writes, copyStep, expansionStep, expansion}
 use Rattle.rules.specs.Laws.Bool.{and-three}
 use Rattle.rules.specs.Laws.Limit.{written-unrefused}
-use Rattle.rules.specs.Laws.Enough.{run-at}
+use Rattle.rules.specs.Laws.Enough.{run-at, run-first}
 use Rattle.scan.specs.Sets.{part, Spans, Starts, notByte}
 use Rattle.scan.specs.Laws.{mark-of}
 use Rattle.scan.specs.Stretches.{spans-each, spans-stop}
@@ -26,8 +26,8 @@ use Rattle.buffers.specs.Emits.{Emits, guard, guarded, Going, going-start, goin
 use Rattle.buffers.specs.Copies.{afterAll, copied, Copied, copied-part, afterAll-same}
 use Rattle.expansion.specs.declared.step.Stepped.{Stepped}
 use Rattle.expansion.specs.declared.Expanded.{Expanded}
-use Rattle.sheet.specs.Use.{Holds, holds-sheet}
-use Rattle.expansion.specs.Step.{Keeps, keeps-holds, Took, Steps, passes}
+use Rattle.sheet.specs.Use.{Holds, holds-sheet, Keeps, keeps-holds}
+use Rattle.expansion.specs.Step.{Took, Steps, passes}
 
 -- What expanding t, from the records s on, came to: what is written, or 9; and, if all is written, whether each step is whole, and the
 -- records that m holds.
@@ -62,14 +62,7 @@ module _ (v : View) where
       each : (k : ℕ) (s : Records) → i ≤ k → k < j → expansionStep v s (drop k t) ≡ (copied (λ s x. s) s (getD t k 0), drop (suc k) t)
       each k s a b = ap (expansionStep v s) (drop-cons t k 0 (omega (arith, x .inside))) ∙ copy-byte s (getD t k 0) (drop (suc k) t) (spans-each x k a b)
 
--- LAWS. The first step of a run, wherever it goes on.
-run-first : {S : Type 0} (f : Step S) (s : S) (t : List ℕ) (i : ℕ) → i < length t → (u : Trace S) × (run f s 0 (drop i t) ≡ step (f s (drop i t) .0) u)
-unfolding run
-run-first f s t i h =
-    let c : drop i t ≡ getD t i 0 ∷ drop (suc i) t = drop-cons t i 0 h in
-    rw c (_, refl)
-
--- The byte at which a stretch without c ends.
+-- LAWS. The byte at which a stretch without c ends.
 is-byte : (x c : ℕ) → notByte c x ≡ false → x ≡ c
 is-byte x c h = at (eqb x c) refl h
   where

@@ -21,7 +21,7 @@ use Rattle.expansion.specs.declared.call_steps.Came.{Came}
 use Rattle.expansion.specs.declared.steps.Let.{Let}
 use Rattle.expansion.specs.declared.steps.Went.{Went}
 use Rattle.expansion.specs.declared.step.Stepped.{Stepped}
-use Rattle.sheet.specs.Use.{Holds, holds-sheet}
+use Rattle.sheet.specs.Use.{Holds, holds-sheet, Keeps, keeps-holds}
 use Rattle.expansion.specs.Let.{Imports, Lets}
 use Rattle.expansion.specs.Reference.{Refers}
 use Rattle.expansion.specs.Call.{Does, StepsBy}
@@ -39,17 +39,6 @@ pub record WritesAt (full : ℕ) (v : View) (t : List ℕ) (at : ℕ) (z b : Lis
   pub inside : r .at ≤ length t
   pub does : (s : IsSheet z) → Does full (expansionStep v (s .r) (drop at t)) (s .r) t b p c r
 
--- The first n bytes of l are a sheet, which may grow up to the limit.
-pub record Keeps (l : List ℕ) (n limit : ℕ) : Type 0 where
-  pub fits : n ≤ limit
-  pub room : limit ≤ length l
-  pub most : limit ≤ 65535
-  pub sheet : IsSheet (take n l)
-
-pub keeps-holds : {l : List ℕ} {n limit : ℕ} (k : Keeps l n limit) → Holds (k .sheet .r) l n limit
-unfolding sheetLength
-keeps-holds {l} {n} k = record { bytes = k .sheet .bytes; long = sym (ap length (sym (k .sheet .bytes)) ∙ length-take-le n l (omega (arith, k .fits, k .room))); fits = k .fits; good = k .sheet .good }
-
 -- The step d: what it writes, or 9; and, if all is written, where reading goes on, whether it is whole, and the records that m holds.
 pub record Took (limit full : ℕ) (d : Did Records × List ℕ) (t b : List ℕ) (p : ℕ) (c m : List ℕ) (r : Stepped) : Type 0 where
   pub emits : Emits full (length b) (guard sheetLength limit (d .0)) b p c (r .ok) (r .number) (r .next)
@@ -64,10 +53,6 @@ pub record Steps (limit full : ℕ) (v : View) (t : List ℕ) (at : ℕ) (b : Li
   pub on : at < r .at
   pub inside : r .at ≤ length t
   pub does : (s : Records) → Holds s l n limit → Took limit full (expansionStep v s (drop at t)) t b p c m r
-
--- A test for a mark, by its answer.
-pub starts-as : {m t : List ℕ} {i : ℕ} {r c : Bool} → Starts m t i r → r ≡ c → Starts m t i c
-starts-as s e = rw e at s
 
 -- THE CHOICE. What a step is, by the marks that stand at its place.
 module _ (v : View) (s : Records) {t : List ℕ} {at : ℕ} {i : Bool} (I : Starts (bytes "#import") t at i) where

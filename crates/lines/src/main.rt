@@ -108,6 +108,87 @@ fn expansion_same(case: &[u8]) -> bool {
     text_same(text, written, &out) & text_same(sheet, kept, &left)
 }
 
+// The definitions call: bundle, path, and the answers of the sheet and of the work buffer, with the call's number in both.
+fn definitions_same(case: &[u8]) -> bool {
+    let sheet = field(case, 2);
+    let rest = field(case, 3);
+    let mut left = buffer();
+    let mut work = buffer();
+    let n = room(sheet, &left);
+    let m = room(rest, &work);
+    let got = builder::define::parse_definitions(
+        field(case, 0),
+        field(case, 1),
+        &mut left[..n],
+        &mut work[..m],
+    );
+    let made = builder::Text {
+        number: got.number,
+        len: got.sheet,
+    };
+    let cleared = builder::Text {
+        number: got.number,
+        len: 0,
+    };
+    text_same(sheet, made, &left) & text_same(rest, cleared, &work)
+}
+
+// Is closed answered as the field says: one byte, 1 for yes?
+fn closed_same(answer: &[u8], closed: bool) -> bool {
+    if answer.len() != 1 {
+        return false;
+    }
+    (answer[0] == 1) == closed
+}
+
+// The pass: bundle, folder, text, sheet, the answers of middle, out and left, with the call's number in each, and closed.
+fn pass_same(case: &[u8]) -> bool {
+    let inner = field(case, 4);
+    let text = field(case, 5);
+    let sheet = field(case, 6);
+    let mut middle = buffer();
+    let mut out = buffer();
+    let mut left = buffer();
+    let k = room(inner, &middle);
+    let n = room(text, &out);
+    let m = room(sheet, &left);
+    let got = builder::pass::pass(
+        field(case, 0),
+        field(case, 1),
+        field(case, 2),
+        field(case, 3),
+        &mut middle[..k],
+        &mut out[..n],
+        &mut left[..m],
+    );
+    let number = got.number;
+    text_same(
+        inner,
+        builder::Text {
+            number: number,
+            len: 0,
+        },
+        &middle,
+    )
+        & text_same(
+            text,
+            builder::Text {
+                number: number,
+                len: got.len,
+            },
+            &out,
+        )
+        & text_same(
+            sheet,
+            builder::Text {
+                number: number,
+                len: got.sheet,
+            },
+            &left,
+        )
+        & closed_same(field(case, 7), got.closed)
+}
+
 // What a case came to: whether the answer is the one given, and how long the case is behind its tag.
 struct Done {
     pub same: bool,
@@ -130,6 +211,14 @@ fn replay_case(tag: u8, case: &[u8]) -> Done
         2 => Done {
             same: expansion_same(case),
             len: behind(case, 5),
+        },
+        3 => Done {
+            same: definitions_same(case),
+            len: behind(case, 4),
+        },
+        4 => Done {
+            same: pass_same(case),
+            len: behind(case, 8),
         },
         _ => Done {
             same: false,
@@ -161,10 +250,10 @@ fn replay(input: &[u8]) -> Tally {
 }
 
 // A buffer for the whole input.
-fn input_buffer() -> [u8; 131072]
-    ensures { λ r. ⌜ 131072 ≡ length r ⌝ }
+fn input_buffer() -> [u8; 196608]
+    ensures { λ r. ⌜ 196608 ≡ length r ⌝ }
 {
-    [0; 131072]
+    [0; 196608]
 }
 
 fn main() {

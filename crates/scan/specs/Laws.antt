@@ -170,6 +170,10 @@ module _ {m t : List ℕ} {i : ℕ} {r : Bool} (s : Starts m t i r) where
   pub mark-no : r ≡ false → mark m (drop i t) ≡ (false, drop i t)
   mark-no e = mark-of m (drop i t) false (s .says ∙ e)
 
+-- A test for a mark, by its answer.
+pub starts-as : {m t : List ℕ} {i : ℕ} {r c : Bool} → Starts m t i r → r ≡ c → Starts m t i c
+starts-as s e = rw e at s
+
 -- A text that begins with a mark is the mark and what is behind it.
 pub prefix-split : (m t : List ℕ) → prefix m t ≡ true → t ≡ m ++ drop (length m) t
 unfolding prefix

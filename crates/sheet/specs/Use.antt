@@ -4,8 +4,10 @@ use mathlib.Core.Bool.{Bool, true, false, _&&_}
 use mathlib.Core.List.{List, [], _∷_}
 use mathlib.Core.Option.{Option, some}
 use Prim.Native.Nat.{ℕ, zero, suc, _≤_, _<_}
+use native.Mathlib.Omega.{arith}
 use lib.Dec.{ltb}
 use lib.ListN.{length, take, getD}
+use lib.Seq.{length-take-le}
 use Rattle.rules.specs.Reader.{all}
 use Rattle.rules.specs.Bytes.{word}
 use Rattle.rules.specs.Sheet.{Value, text, nothing, dictionary, Records, encode, sheetLength, goodRecords, goodValue, sheetOf, set}
@@ -75,6 +77,17 @@ pub record Holds (s : Records) (c : List ℕ) (n limit : ℕ) : Type 0 where
 
 abbrev pub holds-sheet : {s : Records} {c : List ℕ} {n limit : ℕ} → Holds s c n limit → IsSheet (take n c)
 holds-sheet {s} h = record { r = s; bytes = h .bytes; good = h .good }
+
+-- The first n bytes of l are a sheet, which may grow up to the limit.
+pub record Keeps (l : List ℕ) (n limit : ℕ) : Type 0 where
+  pub fits : n ≤ limit
+  pub room : limit ≤ length l
+  pub most : limit ≤ 65535
+  pub sheet : IsSheet (take n l)
+
+pub keeps-holds : {l : List ℕ} {n limit : ℕ} (k : Keeps l n limit) → Holds (k .sheet .r) l n limit
+unfolding sheetLength
+keeps-holds {l} {n} k = record { bytes = k .sheet .bytes; long = sym (ap length (sym (k .sheet .bytes)) ∙ length-take-le n l (omega (arith, k .fits, k .room))); fits = k .fits; good = k .sheet .good }
 
 -- What a lookup gave, where nothing is missing.
 pub found-there : (s : List ℕ) (x : Option Value) (f : Found) → Gives s x f → (f ≡ Missing → ⊥) → (v : Value) × (x ≡ some v) × Gives s (some v) f

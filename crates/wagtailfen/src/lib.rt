@@ -2,7 +2,7 @@
 // returned by value.
 ghost use mathlib.Core.Path.{_≡_};
 ghost use lib.ListN.{length};
-ghost use Rattle.rules.specs.Calls.{resolveOf, resolveStringOf, resolveIncludesOf, preprocessTypstOf, findFileOf, passOf};
+ghost use Rattle.rules.specs.Calls.{resolveOf, resolveStringOf, resolveIncludesOf, preprocessTypstOf, findFileOf, parseDefinitionsOf, passOf};
 
 #[no_mangle]
 pub extern "C" fn wf_resolve(sheet: &[u8], path: &[u8]) -> builder::Resolved
@@ -48,6 +48,18 @@ pub extern "C" fn wf_find_file(bundle: &[u8], path: &[u8]) -> builder::FoundFile
     ensures { λ r. ⌜ findFileOf (now (bundle .entry)) (now (path .entry)) ≡ record { number = r .number; kind = r .kind; start = r .start; len = r .len } ⌝ }
 {
     builder::find_file(bundle, path)
+}
+
+#[no_mangle]
+pub extern "C" fn wf_parse_definitions(
+    bundle: &[u8],
+    path: &[u8],
+    left: &mut [u8],
+    work: &mut [u8],
+) -> builder::define::Defined
+    ensures { λ r. ⌜ parseDefinitionsOf (now (bundle .entry)) (now (path .entry)) (length (now (left .entry))) (length (now (work .entry))) ≡ record { number = r .number; sheetLen = r .sheet; left = now (left .exit); work = now (work .exit) } ⌝ }
+{
+    builder::define::parse_definitions(bundle, path, left, work)
 }
 
 #[no_mangle]

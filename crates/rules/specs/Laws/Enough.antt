@@ -42,6 +42,13 @@ module _ {S : Type 0} (f : Step S) where
       let q : f s (getD t i 0 ∷ drop (suc i) t) .1 ≡ drop (j - suc i) (drop (suc i) t) = ap (λ z. f s z .1) (sym c) ∙ r ∙ d in
       rw (c, d) (run-step s (getD t i 0) (drop (suc i) t) (j - suc i) l q)
 
+-- The first step of a run, wherever it goes on.
+pub run-first : {S : Type 0} (f : Step S) (s : S) (t : List ℕ) (i : ℕ) → i < length t → (u : Trace S) × (run f s 0 (drop i t) ≡ step (f s (drop i t) .0) u)
+unfolding run
+run-first f s t i h =
+    let c : drop i t ≡ getD t i 0 ∷ drop (suc i) t = drop-cons t i 0 h in
+    rw c (_, refl)
+
 module _ {S A : Type 0} (f : S → Reader (Turn S A)) (d : S → A) where
   -- A round that goes on moves
   abbrev pub Moving : Type 0

@@ -28,14 +28,15 @@ use Rattle.rules.specs.Files.{view}
 use Rattle.rules.specs.Definitions.{definitionStep}
 use Rattle.rules.specs.Imports.{imported, importedSheet}
 use Rattle.bundle.specs.Find.{entriesOf}
+use Rattle.scan.specs.Laws.{starts-as}
 use Rattle.definitions.specs.Import.{file-there}
-use Rattle.definitions.specs.File.{starts-as, Parsing, parsing-start, parsing-keeps, parsing-on, parsed-no, parsed, steps-as, room-value, import-nothing, import-refused, import-stopped, import-bound, save-two, save-room, lent-long, lent-saved, lent-swap}
+use Rattle.definitions.specs.File.{Parsing, parsing-start, parsing-keeps, parsing-on, parsed-no, parsed, steps-as, room-value, import-nothing, import-refused, import-stopped, import-bound, save-two, save-room, lent-long, lent-saved, lent-swap}
 
 abbrev μ-parse : Measures 5 parse-kinds.ps ℕ
 μ-parse κs a = 2 * a .1 .1 .1 .1 .1 .1 .0 + 1
 
 abbrev μ-step : Measures 5 step-kinds.ps ℕ
-μ-step κs a = 2 * a .1 .1 .1 .1 .1 .1 .1 .1 .0
+μ-step κs a = 2 * a .1 .1 .1 .1 .1 .1 .1 .1 .1 .0
 
 abbrev parse-at : ℕ → In 5 parse-kinds.ps
 parse-at t = and 5 parse-kinds.ps (is 5 parse-kinds.ps μ-parse t) parse.Pre
@@ -50,10 +51,10 @@ abbrev step-below : ℕ → In 5 step-kinds.ps
 step-below t = and 5 step-kinds.ps (falls 5 step-kinds.ps _<_ μ-step t) step.Pre
 
 abbrev parse-Inv-loop : parse-lts.InvT-loop
-parse-Inv-loop b folder text left₀ limit work₀ levels i₀ len₀ left work i len = (length work ≡ length work₀) × Parsing limit (definitionStep limit (imported limit (view (entriesOf b)) (importedSheet limit (view (entriesOf b)) levels) folder)) text left₀ left i len
+parse-Inv-loop b folder text left₀ limit work₀ levels i₀ len₀ last₀ left work i len last = (length work ≡ length work₀) × Parsing limit (definitionStep limit (imported limit (view (entriesOf b)) (importedSheet limit (view (entriesOf b)) levels) folder)) text left₀ left i len last
 
 abbrev parse-μ-loop : parse-lts.MeasureT-loop
-parse-μ-loop b folder text left₀ limit work₀ levels i₀ len₀ left work i len = length text - i
+parse-μ-loop b folder text left₀ limit work₀ levels i₀ len₀ last₀ left work i len last = length text - i
 
 parse-loop-holds :
     (t : ℕ) →
@@ -73,7 +74,7 @@ parse-step-requires :
     parse.Post
     parse-Inv-loop
     parse-μ-loop
-parse-step-requires t c κs = (omega (arith, c .before .before .before .before .before .before .before .before .before .pre .0), (c .before .before .before .before .before .before .before .before .before .pre .1 .0, search needs, c .before .before .before .before .before .before .before .before .before .pre .1 .1, parsing-keeps (c .before .before .before .loop .inv .1) (c .before .before .before .before .before .before .before .before .before .pre .1 .2) (c .before .before .before .before .before .before .before .before .before .pre .1 .3 .most), record { fits = omega (arith, c .before .before .before .before .before .before .before .before .before .pre .1 .3 .fits, c .before .before .before .loop .inv .0); most = c .before .before .before .before .before .before .before .before .before .pre .1 .3 .most }))
+parse-step-requires t c κs = (omega (arith, c .before .before .before .before .before .before .before .before .before .pre .0), (c .before .before .before .before .before .before .before .before .before .pre .1 .0, search needs, c .before .before .before .before .before .before .before .before .before .pre .1 .1, parsing-keeps (c .before .before .before .loop .inv .1) (c .before .before .before .before .before .before .before .before .before .pre .1 .2) (c .before .before .before .before .before .before .before .before .before .pre .1 .3 .most), record { fits = omega (arith, c .before .before .before .before .before .before .before .before .before .pre .1 .3 .fits, c .before .before .before .loop .inv .0); most = c .before .before .before .before .before .before .before .before .before .pre .1 .3 .most }, c .before .before .before .loop .inv .1 .mark))
 
 parse-same-length :
     (t : ℕ) →
@@ -213,7 +214,7 @@ step-other-step-requires : (t : ℕ) → step-lts.Need-other-step-requires (
   bound-step-reads.Asked,
   bound-step-reads.Learnt,
 ) (step-at t) step.Post
-step-other-step-requires t c κs = (c .before .before .before .before .before .before .before .before .before .before .pre .1 .1, c .before .before .before .before .before .before .before .before .before .before .pre .1 .2, starts-as (c .before .before .before .starts-with .ensures) (not-true _ (c .before .before .if1 .taken)), c .before .before .before .before .before .before .before .before .before .before .pre .1 .3, room-value _ (c .before .before .before .before .before .before .before .before .before .before .pre .1 .4))
+step-other-step-requires t c κs = (c .before .before .before .before .before .before .before .before .before .before .pre .1 .1, c .before .before .before .before .before .before .before .before .before .before .pre .1 .2, starts-as (c .before .before .before .starts-with .ensures) (not-true _ (c .before .before .if1 .taken)), c .before .before .before .before .before .before .before .before .before .before .pre .1 .3, room-value _ (c .before .before .before .before .before .before .before .before .before .before .pre .1 .4), c .before .before .before .before .before .before .before .before .before .before .pre .1 .5)
 
 step-same-length : (t : ℕ) → step-lts.Need-same-length (
   starts-with-reads.Asked,
@@ -813,7 +814,7 @@ step-returns-3 : (t : ℕ) → step-lts.Need-returns-3 (
   bound-step-reads.Asked,
   bound-step-reads.Learnt,
 ) (step-at t) step.Post
-step-returns-3 t c = (refl, steps-as (c .ended .ensures) (import-nothing _ _ _ _ _ (c .before .before .before .before .before .before .starts-with .ensures) (not-false _ (c .before .before .before .before .before .if1 .left)) (c .before .before .before .before .find-import .ensures) _ _ (c .before .enum-told .given .1)))
+step-returns-3 t c = (refl, steps-as (c .ended .ensures) (import-nothing _ _ _ _ _ (c .before .before .before .before .before .before .starts-with .ensures) (not-false _ (c .before .before .before .before .before .if1 .left)) (c .before .before .before .before .find-import .ensures) _ _ (c .before .before .before .before .before .before .before .before .before .before .before .before .before .pre .1 .5) (c .before .enum-told .given .1)))
 
 step-returns-4 : (t : ℕ) → step-lts.Need-returns-4 (
   starts-with-reads.Asked,
@@ -893,7 +894,7 @@ step-returns-5 : (t : ℕ) → step-lts.Need-returns-5 (
   bound-step-reads.Asked,
   bound-step-reads.Learnt,
 ) (step-at t) step.Post
-step-returns-5 t c = (c .before .before .before .before .before .bind-imported .ensures .0 ∙ lent-long _ (c .before .before .before .before .before .before .before .before .before .before .before .before .before .before .before .before .before .before .before .before .before .before .before .before .before .before .before .before .before .before .before .before .before .before .before .before .before .pre .1 .3) (c .before .before .before .before .before .before .before .before .before .before .before .before .before .before .before .before .before .before .before .before .before .before .before .before .before .before .before .before .before .before .before .before .before .before .before .before .before .pre .1 .4) (file-there (c .before .before .before .before .before .before .before .before .before .before .before .before .before .before .before .before .before .before .before .before .before .before .before .before .before .before .before .before .find-import .ensures) (c .before .before .before .before .before .before .before .before .before .before .before .before .before .before .before .before .before .before .before .before .before .before .before .before .before .target2 .given .1) .0) (c .before .before .before .before .before .before .before .before .before .before .before .before .before .before .before .before .before .before .before .before .before .store .ensures) (c .before .before .before .before .before .before .before .before .before .before .before .before .before .before .parse .ensures), steps-as (c .bound-step .ensures) (import-bound _ _ _ _ _ (c .before .before .before .before .before .before .before .before .before .before .before .before .before .before .before .before .before .before .before .before .before .before .before .before .before .before .before .before .before .before .starts-with .ensures) (not-false _ (c .before .before .before .before .before .before .before .before .before .before .before .before .before .before .before .before .before .before .before .before .before .before .before .before .before .before .before .before .before .if1 .left)) (c .before .before .before .before .before .before .before .before .before .before .before .before .before .before .before .before .before .before .before .before .before .before .before .before .before .before .before .before .find-import .ensures) _ _ (c .before .before .before .before .before .before .before .before .before .before .before .before .before .before .before .before .before .before .before .before .before .before .before .before .before .target2 .given .1) (c .before .before .before .before .before .before .before .before .before .before .before .before .before .before .parse .ensures) (not-false _ (c .before .before .before .before .before .before .before .before .if2 .left)) (lent-saved _ (c .before .before .before .before .before .before .before .before .before .before .before .before .before .before .before .before .before .before .before .before .before .before .before .before .before .before .before .before .before .before .before .before .before .before .before .before .before .pre .1 .3) (c .before .before .before .before .before .before .before .before .before .before .before .before .before .before .before .before .before .before .before .before .before .before .before .before .before .before .before .before .before .before .before .before .before .before .before .before .before .pre .1 .4) (file-there (c .before .before .before .before .before .before .before .before .before .before .before .before .before .before .before .before .before .before .before .before .before .before .before .before .before .before .before .before .find-import .ensures) (c .before .before .before .before .before .before .before .before .before .before .before .before .before .before .before .before .before .before .before .before .before .before .before .before .before .target2 .given .1) .0) (c .before .before .before .before .before .before .before .before .before .before .before .before .before .before .before .before .before .before .before .before .before .store .ensures) (c .before .before .before .before .before .before .before .before .before .before .before .before .before .before .parse .ensures)) (c .before .before .before .before .before .bind-imported .ensures .1)))
+step-returns-5 t c = (c .before .before .before .before .before .bind-imported .ensures .0 ∙ lent-long _ (c .before .before .before .before .before .before .before .before .before .before .before .before .before .before .before .before .before .before .before .before .before .before .before .before .before .before .before .before .before .before .before .before .before .before .before .before .before .pre .1 .3) (c .before .before .before .before .before .before .before .before .before .before .before .before .before .before .before .before .before .before .before .before .before .before .before .before .before .before .before .before .before .before .before .before .before .before .before .before .before .pre .1 .4) (file-there (c .before .before .before .before .before .before .before .before .before .before .before .before .before .before .before .before .before .before .before .before .before .before .before .before .before .before .before .before .find-import .ensures) (c .before .before .before .before .before .before .before .before .before .before .before .before .before .before .before .before .before .before .before .before .before .before .before .before .before .target2 .given .1) .0) (c .before .before .before .before .before .before .before .before .before .before .before .before .before .before .before .before .before .before .before .before .before .store .ensures) (c .before .before .before .before .before .before .before .before .before .before .before .before .before .before .parse .ensures), steps-as (c .bound-step .ensures) (import-bound _ _ _ _ _ (c .before .before .before .before .before .before .before .before .before .before .before .before .before .before .before .before .before .before .before .before .before .before .before .before .before .before .before .before .before .before .starts-with .ensures) (not-false _ (c .before .before .before .before .before .before .before .before .before .before .before .before .before .before .before .before .before .before .before .before .before .before .before .before .before .before .before .before .before .if1 .left)) (c .before .before .before .before .before .before .before .before .before .before .before .before .before .before .before .before .before .before .before .before .before .before .before .before .before .before .before .before .find-import .ensures) _ _ (c .before .before .before .before .before .before .before .before .before .before .before .before .before .before .before .before .before .before .before .before .before .before .before .before .before .target2 .given .1) (c .before .before .before .before .before .before .before .before .before .before .before .before .before .before .parse .ensures) (not-false _ (c .before .before .before .before .before .before .before .before .if2 .left)) (lent-saved _ (c .before .before .before .before .before .before .before .before .before .before .before .before .before .before .before .before .before .before .before .before .before .before .before .before .before .before .before .before .before .before .before .before .before .before .before .before .before .pre .1 .3) (c .before .before .before .before .before .before .before .before .before .before .before .before .before .before .before .before .before .before .before .before .before .before .before .before .before .before .before .before .before .before .before .before .before .before .before .before .before .pre .1 .4) (file-there (c .before .before .before .before .before .before .before .before .before .before .before .before .before .before .before .before .before .before .before .before .before .before .before .before .before .before .before .before .find-import .ensures) (c .before .before .before .before .before .before .before .before .before .before .before .before .before .before .before .before .before .before .before .before .before .before .before .before .before .target2 .given .1) .0) (c .before .before .before .before .before .before .before .before .before .before .before .before .before .before .before .before .before .before .before .before .before .store .ensures) (c .before .before .before .before .before .before .before .before .before .before .before .before .before .before .parse .ensures)) (c .before .before .before .before .before .bind-imported .ensures .1) (c .before .before .before .before .before .before .before .before .before .before .before .before .before .before .before .before .before .before .before .before .before .before .before .before .before .before .before .before .before .before .before .before .before .before .before .before .before .pre .1 .3)))
 
 pub +parse+step-spec : {M : Type 1} → statement M
 +parse+step-spec =

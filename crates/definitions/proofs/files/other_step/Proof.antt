@@ -27,7 +27,7 @@ ended-requires : tie.Need-ended-requires
 ended-requires c κs = search needs
 
 returns : tie.Need-returns
-returns c = (refl, λ i. steps-as (c .ended .ensures) (other-comment _ (c .before .before .before .before .before .before .before .before .pre .0) (c .before .before .before .before .before .before .before .before .pre .2) refl (c .before .before .before .starts-with .ensures) i (c .before .before .if1 .taken) (c .before .find .ensures)))
+returns c = (refl, λ i. steps-as (c .ended .ensures) (other-comment _ (c .before .before .before .before .before .before .before .before .pre .0) (c .before .before .before .before .before .before .before .before .pre .2) refl (c .before .before .before .starts-with .ensures) i (c .before .before .before .before .before .before .before .before .pre .5) (c .before .before .if1 .taken) (c .before .find .ensures)))
 
 slice-aggregate-starts-with-2 : tie.Need-slice-aggregate-starts-with-2
 slice-aggregate-starts-with-2 c = search needs
@@ -39,7 +39,7 @@ add-let-step : tie.Need-add-let-step
 add-let-step c = search needs
 
 let-step-requires : tie.Need-let-step-requires
-let-step-requires c κs = (c .before .before .before .starts-with2 .ensures .there (c .before .before .if2 .taken), c .before .before .before .before .before .before .before .before .before .before .before .pre .1, c .before .before .before .before .before .before .before .before .before .before .before .pre .3, c .before .before .before .before .before .before .before .before .before .before .before .pre .4)
+let-step-requires c κs = (c .before .before .before .starts-with2 .ensures .there (c .before .before .if2 .taken), c .before .before .before .before .before .before .before .before .before .before .before .pre .1, c .before .before .before .before .before .before .before .before .before .before .before .pre .3, c .before .before .before .before .before .before .before .before .before .before .before .pre .4, c .before .before .before .before .before .before .before .before .before .before .before .pre .5)
 
 same-length : tie.Need-same-length
 same-length c = c .before .before .before .before .let-step .ensures .1 .size
@@ -48,7 +48,7 @@ same-length-2 : tie.Need-same-length-2
 same-length-2 c = c .before .before .before .before .let-step .ensures .0
 
 returns-2 : tie.Need-returns-2
-returns-2 c = (c .before .before .before .before .let-step .ensures .0, λ i. other-let _ (c .before .before .before .before .before .before .before .before .before .before .before .before .before .before .before .before .pre .0) (c .before .before .before .before .before .before .before .before .before .before .before .before .before .before .before .before .pre .2) refl (c .before .before .before .before .before .before .before .before .before .before .before .starts-with .ensures) i (c .before .before .before .before .before .before .before .before .before .before .if1 .left) (c .before .before .before .before .before .before .before .before .starts-with2 .ensures) (c .before .before .before .before .before .before .before .if2 .taken) (c .before .before .before .before .let-step .ensures .1))
+returns-2 c = (c .before .before .before .before .let-step .ensures .0, λ i. other-let _ (c .before .before .before .before .before .before .before .before .before .before .before .before .before .before .before .before .pre .0) (c .before .before .before .before .before .before .before .before .before .before .before .before .before .before .before .before .pre .2) refl (c .before .before .before .before .before .before .before .before .before .before .before .starts-with .ensures) i (c .before .before .before .before .before .before .before .before .before .before .before .before .before .before .before .before .pre .5) (c .before .before .before .before .before .before .before .before .before .before .if1 .left) (c .before .before .before .before .before .before .before .before .starts-with2 .ensures) (c .before .before .before .before .before .before .before .if2 .taken) (c .before .before .before .before .let-step .ensures .1))
 
 add-ended : tie.Need-add-ended
 add-ended c = search needs
@@ -57,7 +57,7 @@ ended-requires-2 : tie.Need-ended-requires-2
 ended-requires-2 c κs = search needs
 
 returns-3 : tie.Need-returns-3
-returns-3 c = (refl, λ i. steps-as (c .ended2 .ensures) (other-skip _ (c .before .before .before .before .before .before .before .before .before .before .pre .0) (c .before .before .before .before .before .before .before .before .before .before .pre .2) refl (c .before .before .before .before .before .starts-with .ensures) i (c .before .before .before .before .if1 .left) (c .before .before .starts-with2 .ensures) (c .before .if2 .left)))
+returns-3 c = (refl, λ i. steps-as (c .ended2 .ensures) (other-skip _ (c .before .before .before .before .before .before .before .before .before .before .pre .0) (c .before .before .before .before .before .before .before .before .before .before .pre .2) refl (c .before .before .before .before .before .starts-with .ensures) i (c .before .before .before .before .before .before .before .before .before .before .pre .5) (c .before .before .before .before .if1 .left) (c .before .before .starts-with2 .ensures) (c .before .if2 .left)))
 
 pub other-step-spec : {M : Type 1} → statement M
 other-step-spec =

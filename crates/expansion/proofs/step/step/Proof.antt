@@ -10,7 +10,8 @@ use Rattle.scan.proofs.starts_with.Reads as starts-with-reads
 use mathlib.Core.Path.{refl, sym}
 use lib.Seq.{length-take-le}
 use native.Mathlib.Omega.{arith}
-use Rattle.expansion.specs.Step.{starts-as, steps-import, steps-let, steps-writes}
+use Rattle.scan.specs.Laws.{starts-as}
+use Rattle.expansion.specs.Step.{steps-import, steps-let, steps-writes}
 
 slice-aggregate-starts-with : tie.Need-slice-aggregate-starts-with
 slice-aggregate-starts-with c = search needs

@@ -9,7 +9,8 @@ use Rattle.expansion.proofs.steps.reference_step.Reads as reference-ste
 use Rattle.scan.proofs.starts_with.Reads as starts-with-reads
 use mathlib.Core.Path.{refl}
 use native.Mathlib.Omega.{arith}
-use Rattle.expansion.specs.Step.{starts-as, writes-raw, writes-link, writes-reference}
+use Rattle.scan.specs.Laws.{starts-as}
+use Rattle.expansion.specs.Step.{writes-raw, writes-link, writes-reference}
 
 slice-aggregate-starts-with : tie.Need-slice-aggregate-starts-with
 slice-aggregate-starts-with c = search needs
