@@ -25,7 +25,7 @@ use Rattle.scan.specs.Paths.{Parent}
 use Rattle.values.specs.Values.{slots, Room}
 use Rattle.definitions.specs.File.{Parses}
 use Rattle.definitions.specs.declared.files.Parsed.{Parsed}
-use Rattle.builder.specs.declared.define.Defined.{Defined as Answered}
+use Rattle.builder.specs.declared.definitions_call.Defined.{Defined as Answered}
 use Rattle.builder.specs.Given.{limit-le}
 
 -- Two buffers are cleared, and the number answered.

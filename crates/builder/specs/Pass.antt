@@ -27,7 +27,7 @@ use Rattle.includes.specs.Files.{ends-last}
 use Rattle.expansion.specs.declared.Expanded.{Expanded as Ran}
 use Rattle.sheet.specs.Use.{Keeps}
 use Rattle.expansion.specs.Run.{Expands}
-use Rattle.builder.specs.declared.pass.Passed.{Passed}
+use Rattle.builder.specs.declared.pass_call.Passed.{Passed}
 use Rattle.builder.specs.Given.{given, given-then, Fine, fine-given, Judges}
 use Rattle.builder.specs.Includes.{Middle, middle-stops, middle-goes}
 use Rattle.builder.specs.Expansion.{sheet-keeps, expanded-stops, expanded-goes, left-length}

@@ -8,9 +8,14 @@ ghost use Rattle.sheet.specs.Find.{foundKind};
 ghost use Rattle.builder.specs.Files.{fileAnswer};
 ghost use Rattle.builder.specs.Text.{TextAt, Gave, Refuses, RefusesBoth};
 
-pub mod define;
+mod definitions_call;
 mod given;
-pub mod pass;
+mod pass_call;
+
+pub use definitions_call::Defined;
+pub use definitions_call::parse_definitions;
+pub use pass_call::Passed;
+pub use pass_call::pass;
 
 // A lookup's answer. Kind: 0 missing, 1 none, 2 text, 3 dictionary.
 #[repr(C)]

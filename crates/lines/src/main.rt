@@ -116,7 +116,7 @@ fn definitions_same(case: &[u8]) -> bool {
     let mut work = buffer();
     let n = room(sheet, &left);
     let m = room(rest, &work);
-    let got = builder::define::parse_definitions(
+    let got = builder::parse_definitions(
         field(case, 0),
         field(case, 1),
         &mut left[..n],
@@ -152,7 +152,7 @@ fn pass_same(case: &[u8]) -> bool {
     let k = room(inner, &middle);
     let n = room(text, &out);
     let m = room(sheet, &left);
-    let got = builder::pass::pass(
+    let got = builder::pass(
         field(case, 0),
         field(case, 1),
         field(case, 2),

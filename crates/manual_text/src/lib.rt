@@ -39,7 +39,7 @@ fn pass_over(bundle: &[u8], text: &[u8], sheet: &[u8], out: &mut [u8]) -> Built
 {
     let mut middle = text_buffer();
     let mut left = sheet_buffer();
-    let r = builder::pass::pass(bundle, b"", text, sheet, &mut middle, out, &mut left);
+    let r = builder::pass(bundle, b"", text, sheet, &mut middle, out, &mut left);
     Built {
         number: r.number,
         len: r.len,
@@ -76,7 +76,7 @@ fn build(bundle: &[u8], out: &mut [u8]) -> Built
     }
     let mut sheet = sheet_buffer();
     let mut work = work_buffer();
-    let d = builder::define::parse_definitions(bundle, b"defs.typ", &mut sheet, &mut work);
+    let d = builder::parse_definitions(bundle, b"defs.typ", &mut sheet, &mut work);
     if d.number != 0 {
         return Built {
             number: d.number,

@@ -56,10 +56,10 @@ pub extern "C" fn wf_parse_definitions(
     path: &[u8],
     left: &mut [u8],
     work: &mut [u8],
-) -> builder::define::Defined
+) -> builder::Defined
     ensures { λ r. ⌜ parseDefinitionsOf (now (bundle .entry)) (now (path .entry)) (length (now (left .entry))) (length (now (work .entry))) ≡ record { number = r .number; sheetLen = r .sheet; left = now (left .exit); work = now (work .exit) } ⌝ }
 {
-    builder::define::parse_definitions(bundle, path, left, work)
+    builder::parse_definitions(bundle, path, left, work)
 }
 
 #[no_mangle]
@@ -71,8 +71,8 @@ pub extern "C" fn wf_pass(
     middle: &mut [u8],
     out: &mut [u8],
     left: &mut [u8],
-) -> builder::pass::Passed
+) -> builder::Passed
     ensures { λ r. ⌜ passOf (now (bundle .entry)) (now (folder .entry)) (now (text .entry)) (now (sheet .entry)) (length (now (middle .entry))) (length (now (out .entry))) (length (now (left .entry))) ≡ record { number = r .number; len = r .len; sheetLen = r .sheet; closed = r .closed; middle = now (middle .exit); out = now (out .exit); left = now (left .exit) } ⌝ }
 {
-    builder::pass::pass(bundle, folder, text, sheet, middle, out, left)
+    builder::pass(bundle, folder, text, sheet, middle, out, left)
 }

@@ -1,11 +1,11 @@
 use borrow.Author.Needs.{needs}
-use Rattle.builder.proofs.pass.run.Statement.{statement}
-use Rattle.builder.proofs.pass.run.Tie as tie
-use Rattle.builder.proofs.pass.run.Reads as reads
-use Rattle.builder.proofs.pass.run.Lts as lts
+use Rattle.builder.proofs.pass_call.run.Statement.{statement}
+use Rattle.builder.proofs.pass_call.run.Tie as tie
+use Rattle.builder.proofs.pass_call.run.Reads as reads
+use Rattle.builder.proofs.pass_call.run.Lts as lts
 use Rattle.buffers.proofs.store.Reads as store-reads
-use Rattle.builder.proofs.pass.ends_in_newline.Reads as ends-in-newline-reads
-use Rattle.builder.proofs.pass.refused.Reads as refused-reads
+use Rattle.builder.proofs.pass_call.ends_in_newline.Reads as ends-in-newline-reads
+use Rattle.builder.proofs.pass_call.refused.Reads as refused-reads
 use Rattle.expansion.proofs.expand.Reads as expand-reads
 use Rattle.includes.proofs.resolve.Reads as resolve-reads
 use mathlib.Core.Path.{sym}

@@ -1,8 +1,8 @@
 use borrow.Author.Needs.{needs}
-use Rattle.builder.proofs.pass.clear.Statement.{statement}
-use Rattle.builder.proofs.pass.clear.Tie as tie
-use Rattle.builder.proofs.pass.clear.Reads as reads
-use Rattle.builder.proofs.pass.clear.Lts as lts
+use Rattle.builder.proofs.pass_call.clear.Statement.{statement}
+use Rattle.builder.proofs.pass_call.clear.Tie as tie
+use Rattle.builder.proofs.pass_call.clear.Reads as reads
+use Rattle.builder.proofs.pass_call.clear.Lts as lts
 use Rattle.buffers.proofs.clear_from.Reads as clear-from-reads
 use mathlib.Core.Path.{refl, _∙_}
 use native.Mathlib.Nat.{sub-zero}

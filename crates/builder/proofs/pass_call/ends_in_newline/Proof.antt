@@ -1,8 +1,8 @@
 use borrow.Author.Needs.{needs}
-use Rattle.builder.proofs.pass.ends_in_newline.Statement.{statement}
-use Rattle.builder.proofs.pass.ends_in_newline.Tie as tie
-use Rattle.builder.proofs.pass.ends_in_newline.Reads as reads
-use Rattle.builder.proofs.pass.ends_in_newline.Lts as lts
+use Rattle.builder.proofs.pass_call.ends_in_newline.Statement.{statement}
+use Rattle.builder.proofs.pass_call.ends_in_newline.Tie as tie
+use Rattle.builder.proofs.pass_call.ends_in_newline.Reads as reads
+use Rattle.builder.proofs.pass_call.ends_in_newline.Lts as lts
 use Rattle.builder.specs.Pass.{ends-empty, ends-byte}
 
 returns : tie.Need-returns

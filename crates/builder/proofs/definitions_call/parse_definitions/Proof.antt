@@ -1,10 +1,10 @@
 use borrow.Author.Needs.{needs}
-use Rattle.builder.proofs.define.parse_definitions.Statement.{statement}
-use Rattle.builder.proofs.define.parse_definitions.Tie as tie
-use Rattle.builder.proofs.define.parse_definitions.Reads as reads
-use Rattle.builder.proofs.define.parse_definitions.Lts as lts
-use Rattle.builder.proofs.define.define.Reads as define-reads
-use Rattle.builder.proofs.define.no_definitions.Reads as no-definitions-reads
+use Rattle.builder.proofs.definitions_call.parse_definitions.Statement.{statement}
+use Rattle.builder.proofs.definitions_call.parse_definitions.Tie as tie
+use Rattle.builder.proofs.definitions_call.parse_definitions.Reads as reads
+use Rattle.builder.proofs.definitions_call.parse_definitions.Lts as lts
+use Rattle.builder.proofs.definitions_call.define.Reads as define-reads
+use Rattle.builder.proofs.definitions_call.no_definitions.Reads as no-definitions-reads
 use Rattle.builder.proofs.given.sheet_limit.Reads as sheet-limit-reads
 use Rattle.bundle.proofs.check.Reads as check-reads
 use Rattle.bundle.proofs.fetch.Reads as fetch-reads

@@ -1,10 +1,10 @@
 use borrow.Author.Needs.{needs}
-use Rattle.builder.proofs.define.define.Statement.{statement}
-use Rattle.builder.proofs.define.define.Tie as tie
-use Rattle.builder.proofs.define.define.Reads as reads
-use Rattle.builder.proofs.define.define.Lts as lts
+use Rattle.builder.proofs.definitions_call.define.Statement.{statement}
+use Rattle.builder.proofs.definitions_call.define.Tie as tie
+use Rattle.builder.proofs.definitions_call.define.Reads as reads
+use Rattle.builder.proofs.definitions_call.define.Lts as lts
 use Rattle.buffers.proofs.clear_from.Reads as clear-from-reads
-use Rattle.builder.proofs.define.no_definitions.Reads as no-definitions-reads
+use Rattle.builder.proofs.definitions_call.no_definitions.Reads as no-definitions-reads
 use Rattle.builder.proofs.given.sheet_limit.Reads as sheet-limit-reads
 use Rattle.definitions.proofs.files.parse.Reads as parse-reads
 use Rattle.scan.proofs.is_ascii.Reads as is-ascii-reads

@@ -1,12 +1,12 @@
 use borrow.Author.Needs.{needs}
-use Rattle.builder.proofs.pass.judge_and_run.Statement.{statement}
-use Rattle.builder.proofs.pass.judge_and_run.Tie as tie
-use Rattle.builder.proofs.pass.judge_and_run.Reads as reads
-use Rattle.builder.proofs.pass.judge_and_run.Lts as lts
+use Rattle.builder.proofs.pass_call.judge_and_run.Statement.{statement}
+use Rattle.builder.proofs.pass_call.judge_and_run.Tie as tie
+use Rattle.builder.proofs.pass_call.judge_and_run.Reads as reads
+use Rattle.builder.proofs.pass_call.judge_and_run.Lts as lts
 use Rattle.builder.proofs.given.refusal.Reads as refusal-reads
 use Rattle.builder.proofs.given.sheet_limit.Reads as sheet-limit-reads
-use Rattle.builder.proofs.pass.refused.Reads as refused-reads
-use Rattle.builder.proofs.pass.run.Reads as run-reads
+use Rattle.builder.proofs.pass_call.refused.Reads as refused-reads
+use Rattle.builder.proofs.pass_call.run.Reads as run-reads
 use mathlib.Core.Path.{refl}
 use Rattle.builder.specs.Pass.{passes-refused, pass-judged}
 

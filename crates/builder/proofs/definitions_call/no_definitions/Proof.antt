@@ -1,8 +1,8 @@
 use borrow.Author.Needs.{needs}
-use Rattle.builder.proofs.define.no_definitions.Statement.{statement}
-use Rattle.builder.proofs.define.no_definitions.Tie as tie
-use Rattle.builder.proofs.define.no_definitions.Reads as reads
-use Rattle.builder.proofs.define.no_definitions.Lts as lts
+use Rattle.builder.proofs.definitions_call.no_definitions.Statement.{statement}
+use Rattle.builder.proofs.definitions_call.no_definitions.Tie as tie
+use Rattle.builder.proofs.definitions_call.no_definitions.Reads as reads
+use Rattle.builder.proofs.definitions_call.no_definitions.Lts as lts
 use Rattle.buffers.proofs.clear_from.Reads as clear-from-reads
 use mathlib.Core.Path.{_≡_, refl, _∙_}
 use native.Mathlib.Nat.{sub-zero}

@@ -1,10 +1,10 @@
 use borrow.Author.Needs.{needs}
-use Rattle.builder.proofs.pass.pass.Statement.{statement}
-use Rattle.builder.proofs.pass.pass.Tie as tie
-use Rattle.builder.proofs.pass.pass.Reads as reads
-use Rattle.builder.proofs.pass.pass.Lts as lts
-use Rattle.builder.proofs.pass.clear.Reads as clear-reads
-use Rattle.builder.proofs.pass.judge_and_run.Reads as judge-and-run-reads
+use Rattle.builder.proofs.pass_call.pass.Statement.{statement}
+use Rattle.builder.proofs.pass_call.pass.Tie as tie
+use Rattle.builder.proofs.pass_call.pass.Reads as reads
+use Rattle.builder.proofs.pass_call.pass.Lts as lts
+use Rattle.builder.proofs.pass_call.clear.Reads as clear-reads
+use Rattle.builder.proofs.pass_call.judge_and_run.Reads as judge-and-run-reads
 use Rattle.builder.specs.Pass.{passes-cleared}
 
 judge-and-run-requires : tie.Need-judge-and-run-requires
