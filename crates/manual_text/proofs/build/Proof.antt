@@ -3,7 +3,6 @@ use Rattle.manual_text.proofs.build.Statement.{statement}
 use Rattle.manual_text.proofs.build.Tie as tie
 use Rattle.manual_text.proofs.build.Reads as reads
 use Rattle.manual_text.proofs.build.Lts as lts
-use Rattle.builder.proofs.definitions_call.parse_definitions.Reads as parse-definitions-reads
 use Rattle.manual_text.proofs.pass_main.Reads as pass-main-reads
 use Rattle.manual_text.proofs.sheet_buffer.Reads as sheet-buffer-reads
 use Rattle.manual_text.proofs.work_buffer.Reads as work-buffer-reads

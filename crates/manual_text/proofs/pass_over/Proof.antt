@@ -3,7 +3,6 @@ use Rattle.manual_text.proofs.pass_over.Statement.{statement}
 use Rattle.manual_text.proofs.pass_over.Tie as tie
 use Rattle.manual_text.proofs.pass_over.Reads as reads
 use Rattle.manual_text.proofs.pass_over.Lts as lts
-use Rattle.builder.proofs.pass_call.pass.Reads as pass-reads
 use Rattle.manual_text.proofs.sheet_buffer.Reads as sheet-buffer-reads
 use Rattle.manual_text.proofs.text_buffer.Reads as text-buffer-reads
 use mathlib.Core.Path.{refl}
