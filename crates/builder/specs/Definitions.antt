@@ -1,13 +1,12 @@
 -- The definitions call: the ways through it.
-use mathlib.Core.Path.{_≡_, refl, sym, ap, _∙_}
+use mathlib.Core.Path.{_≡_, sym, ap, _∙_}
 use mathlib.Core.List.{List}
 use mathlib.Core.Bool.{Bool, true, false}
 use Prim.Native.Nat.{ℕ, _+_, _*_, _-_, _≤_, _<_}
 use native.Mathlib.Omega.{arith}
-use lib.Dec.{leb}
 use lib.ListN.{length, take, drop}
 use borrow.Author.Tests.{le-leb, lt-leb}
-use Rattle.rules.specs.Answer.{Answer, refused, accepted, _>>=_, _>>_, check, orRefuse}
+use Rattle.rules.specs.Answer.{Answer, _>>=_, _>>_, check, orRefuse}
 use Rattle.rules.specs.Reader.{all}
 use Rattle.rules.specs.Bytes.{ascii, parent}
 use Rattle.rules.specs.Bundle.{Entry, bundleOf}

@@ -2,18 +2,17 @@
 use mathlib.Core.Path.{_≡_, refl, sym, ap, _∙_}
 use mathlib.Core.List.{List, [], _∷_, _++_}
 use mathlib.Core.Bool.{Bool, true, false, _&&_, true≢false}
-use Prim.Native.Char.{code}
-use Prim.Native.Nat.{ℕ, zero, suc, _+_, _-_, _^_, _≤_, _<_}
+use Prim.Native.Nat.{ℕ, suc, _+_, _-_, _^_, _≤_, _<_}
 use native.Mathlib.Omega.{arith}
-use lib.Dec.{leb, eqb}
+use lib.Dec.{eqb}
 use lib.ListN.{length, take, drop, length-drop}
 use lib.Seq.{drop-drop}
 use borrow.Author.Tests.{lt-leb, eq-eqb, ne-eqb, eqb-true, eqb-false}
-use Rattle.rules.specs.Answer.{Answer, refused, accepted}
-use Rattle.rules.specs.Reader.{Reader, bytes, but, prefix, span, sees, skip, mark, ret, ifR, _>>=_, _>>_}
-use Rattle.rules.specs.Bytes.{blank, runByte, isPath, underscored}
+use Rattle.rules.specs.Answer.{Answer}
+use Rattle.rules.specs.Reader.{bytes, but, prefix, sees, mark, ret, ifR, _>>=_, _>>_}
+use Rattle.rules.specs.Bytes.{blank, runByte}
 use Rattle.rules.specs.Strings.{reference, expression}
-use Rattle.rules.specs.Files.{View, fetch, opened}
+use Rattle.rules.specs.Files.{View, opened}
 use Rattle.rules.specs.Expansion.{Content, handedBack, noContent, given, rawContent, withoutSlash, readCall, content}
 use Rattle.scan.specs.Sets.{Spans, Skips, Sees, Starts, byteIs}
 use Rattle.scan.specs.Laws.{sees-the, skips-at, mark-of, mark-yes, mark-no}
@@ -23,12 +22,11 @@ use Rattle.strings.specs.Read.{Wrote}
 use Rattle.strings.specs.Paths.{PathIn}
 use Rattle.bundle.specs.declared.Opened.{Opened}
 use Rattle.bundle.specs.declared.Opened.the-variants.{Refused, Text}
-use Rattle.calls.specs.declared.values.Value.{Value}
-use Rattle.calls.specs.declared.values.Value.the-variants.{Empty, Literal, Reference, Expression, File}
+use Rattle.calls.specs.declared.values.Value.the-variants.{Reference, Expression, File}
 use Rattle.calls.specs.declared.content.Told.{Told}
 use Rattle.calls.specs.declared.content.Told.the-variants.{Given, HandedBack, Refused as Bad}
 use Rattle.calls.specs.declared.content.Content.{Content as Read}
-use Rattle.calls.specs.Values.{valueText, Inside, Ends, expression-rest}
+use Rattle.calls.specs.Values.{valueText, Inside, Ends}
 
 -- What was opened, as a content.
 unfoldable pub FileIs : Opened → Told → Type 0

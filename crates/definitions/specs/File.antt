@@ -5,19 +5,19 @@ use mathlib.Core.Bool.{Bool, true, false, true≢false, _&&_}
 use Prim.Native.Nat.{ℕ, zero, suc, _+_, _-_, _≤_, _<_}
 use native.Mathlib.Omega.{arith}
 use native.Mathlib.Nat.{sub-zero}
-use lib.Dec.{leb, eqb}
-use lib.ListN.{length, take, drop, getD, drop-of-length-le}
-use lib.Seq.{sets, sets-eq, length-sets, length-take-le, take-append-seam, drop-at, drop-cons}
+use lib.Dec.{eqb}
+use lib.ListN.{length, take, drop, drop-of-length-le}
+use lib.Seq.{sets, sets-eq, length-sets, length-take-le, take-append-seam, drop-at}
 use borrow.Author.Tests.{le-leb, eqb-true}
 use Rattle.rules.specs.Answer.{Answer, refused, accepted, _>>=_, _>>_, check}
 use Rattle.rules.specs.Reader as Reader
 use Rattle.rules.specs.Reader.{all, bytes, prefix}
 use Rattle.rules.specs.Laws.Bool.{and-l}
 use Rattle.rules.specs.Run.{ok, fail, andThen, Did, Step, Trace, step, run, write, limited}
-use Rattle.rules.specs.Bytes.{ascii, word}
+use Rattle.rules.specs.Bytes.{ascii}
 use Rattle.rules.specs.Files.{View}
 use Rattle.rules.specs.Sheet.{Records, end, encode, sheetLength, goodRecords}
-use Rattle.rules.specs.Definitions.{Names, names, bound, importStep, letStep, definitionStep}
+use Rattle.rules.specs.Definitions.{Names, names, bound, definitionStep}
 use Rattle.rules.specs.Imports.{bindNames, imported, fileSheet, importedSheet}
 use Rattle.rules.specs.Laws.Enough.{run-at, run-first}
 use Rattle.scan.specs.Sets.{part, Spans, Starts, notByte}
@@ -36,7 +36,6 @@ use Rattle.definitions.specs.Steps.{Comes, DefinesLet, within}
 use Rattle.definitions.specs.Import.{comesTo, ImportsAt}
 use Rattle.definitions.specs.declared.steps.Stepped.{Stepped}
 use Rattle.definitions.specs.declared.files.Parsed.{Parsed}
-use Rattle.definitions.specs.declared.imports.Target.{Target}
 use Rattle.definitions.specs.declared.imports.Target.the-variants.{Nothing, Refused, File as Found-at}
 use Rattle.definitions.specs.declared.imports.Imported.{Imported}
 

@@ -11,7 +11,7 @@ use borrow.Author.Tests.{le-leb, lt-leb}
 use Rattle.rules.specs.Answer.{Answer, refused, accepted, _>>=_, _>>_, check}
 use Rattle.rules.specs.Reader.{all}
 use Rattle.rules.specs.Bytes.{word}
-use Rattle.rules.specs.Sheet.{Value, text, nothing, dictionary, Records, end, rec, encode, sheetLength, goodValue, goodRecords, get, set}
+use Rattle.rules.specs.Sheet.{Value, nothing, Records, end, rec, encode, sheetLength, goodValue, goodRecords, get, set}
 use Rattle.rules.specs.Definitions.{Names, star, listed, listedMore}
 use Rattle.rules.specs.Imports.{bindOne, bindIf, bindAll, bindListed, bindNames}
 use Rattle.rules.specs.Laws.Answer.{bind-accepted}
@@ -25,7 +25,7 @@ use Rattle.sheet.specs.Write.{Bindable, BindsTo, IsThere}
 use Rattle.sheet.specs.Use.{Holds, holds-sheet, found-there, to-bind, bound-bytes, over-long}
 use Rattle.sheet.specs.declared.head.Item.{Item}
 use Rattle.sheet.specs.declared.lookup.Found.{Found}
-use Rattle.sheet.specs.declared.lookup.Found.the-variants.{Missing, None, Text, Dictionary}
+use Rattle.sheet.specs.declared.lookup.Found.the-variants.{Missing}
 use Rattle.sheet.specs.declared.bind.Bound.{Bound}
 use Rattle.sheet.specs.declared.bind.Bound.the-variants.{Over, Length}
 

@@ -1,10 +1,9 @@
 -- The steps of a file of definitions.
 use mathlib.Core.Path.{_≡_, refl, sym, ap, subst, _∙_}
 use mathlib.Core.List.{List, [], _∷_, _++_}
-use mathlib.Core.Bool.{Bool, true, false, true≢false, _&&_}
+use mathlib.Core.Bool.{true, false, true≢false, _&&_}
 use Prim.Native.Nat.{ℕ, _+_, _≤_, _<_}
 use native.Mathlib.Omega.{arith}
-use lib.Dec.{leb}
 use lib.ListN.{length, take, drop, take-append-drop}
 use borrow.Author.Tests.{le-leb, lt-leb}
 use Rattle.rules.specs.Answer.{Answer, refused, accepted}
@@ -16,11 +15,10 @@ use Rattle.rules.specs.Definitions.{Names, value, dictionaryValue, bound, letBo
 use Rattle.rules.specs.Laws.Bool.{and-r}
 use Rattle.rules.specs.Laws.Texts.{all-right}
 use Rattle.rules.specs.Laws.Numbers.{numberedE}
-use Rattle.rules.specs.Laws.Values.{numberedOr, didHas, sheetGood, reads-definition}
+use Rattle.rules.specs.Laws.Values.{numberedOr, didHas, reads-definition}
 use Rattle.scan.specs.Sets.{part, Spans}
 use Rattle.buffers.specs.Emits.{guard, guard-yes, guard-no}
 use Rattle.sheet.specs.Order.{asked}
-use Rattle.sheet.specs.Find.{IsSheet}
 use Rattle.sheet.specs.Place.{Between}
 use Rattle.sheet.specs.Mark.{Mark, Marked, mark-of}
 use Rattle.sheet.specs.Write.{IsSource, BindsAt}

@@ -4,14 +4,14 @@ use mathlib.Core.Bool.{Bool, true, false, not, true≢false}
 use mathlib.Core.List.{List, [], _∷_, _++_, append-nil, append-assoc}
 use Prim.Native.Nat.{ℕ, zero, suc, _+_, _≤_, _<_}
 use native.Mathlib.Omega.{arith}
-use lib.ListN.{length, drop, length-append}
+use lib.ListN.{length, drop}
 use lib.Dec.{eqb}
 use borrow.Author.Tests.{eqb-true}
-use Rattle.rules.specs.Reader.{Reader, ret, ifR, _>>=_, _>>_, bytes, the, but, span, prefix, mark, loop, rounds, Turn, again, stop}
+use Rattle.rules.specs.Reader.{Reader, ret, ifR, _>>=_, _>>_, bytes, the, but, span, prefix, mark, loop, rounds, again, stop}
 use Rattle.rules.specs.Bytes.{word}
 use Rattle.rules.specs.Definitions.{Names, star, listed, listedMore, wordRound, names}
 use Rattle.rules.specs.Laws.Entries.{word-moving}
-use Rattle.rules.specs.Laws.Enough.{Moving, rounds-again, rounds-stop, span-split}
+use Rattle.rules.specs.Laws.Enough.{rounds-again, rounds-stop}
 use Rattle.scan.specs.Sets.{part, Spans, Starts}
 use Rattle.scan.specs.Laws.{mark-yes, mark-no, mark-of, prefix-split}
 use Rattle.sheet.specs.declared.bind.Bound.{Bound}

@@ -1,15 +1,13 @@
 -- One step at a `#`.
 use mathlib.Core.Path.{_≡_, refl, sym, ap, subst, _∙_}
 use mathlib.Core.List.{List, [], _∷_}
-use mathlib.Core.Bool.{Bool, true, false, true≢false}
+use mathlib.Core.Bool.{Bool, true, false}
 use Prim.Native.Nat.{ℕ, _+_, _≤_, _<_}
 use native.Mathlib.Omega.{arith}
-use lib.Dec.{leb}
 use lib.ListN.{length, take, drop}
-use lib.Seq.{length-take-le}
 use borrow.Author.Tests.{le-leb, lt-leb}
-use Rattle.rules.specs.Reader.{bytes, mark, ifR, _>>=_}
-use Rattle.rules.specs.Run.{Emit, ok, put, fail, Did, write}
+use Rattle.rules.specs.Reader.{bytes, ifR, _>>=_}
+use Rattle.rules.specs.Run.{ok, Did, write}
 use Rattle.rules.specs.Files.{View}
 use Rattle.rules.specs.Sheet.{Records, sheetLength, resolveString}
 use Rattle.rules.specs.Expansion.{binds, writes, importStep, letStep, referenceStep, callStep, raw, link, expansionStep}
@@ -21,7 +19,7 @@ use Rattle.expansion.specs.declared.call_steps.Came.{Came}
 use Rattle.expansion.specs.declared.steps.Let.{Let}
 use Rattle.expansion.specs.declared.steps.Went.{Went}
 use Rattle.expansion.specs.declared.step.Stepped.{Stepped}
-use Rattle.sheet.specs.Use.{Holds, holds-sheet, Keeps, keeps-holds}
+use Rattle.sheet.specs.Use.{Holds, holds-sheet}
 use Rattle.expansion.specs.Let.{Imports, Lets}
 use Rattle.expansion.specs.Reference.{Refers}
 use Rattle.expansion.specs.Call.{Does, StepsBy}

@@ -1,21 +1,20 @@
 -- A value by what stands at its place, and a dictionary entry by entry.
 use mathlib.Core.Path.{_≡_, refl, sym, ap, subst, _∙_}
-use mathlib.Core.List.{List, [], _∷_, _++_, append-nil}
+use mathlib.Core.List.{List, [], _∷_, _++_}
 use mathlib.Core.Bool.{Bool, true, false, true≢false}
 use Prim.Native.Nat.{ℕ, zero, suc, _+_, _-_, _*_, _≤_, _<_}
 use native.Mathlib.Omega.{arith}
-use lib.Dec.{leb}
-use lib.ListN.{length, take, drop, length-append, length-drop, drop-of-length-le}
+use lib.ListN.{length, take, drop, length-append, length-drop}
 use lib.Seq.{length-take-le, take-append-le, drop-at}
 use borrow.Author.Tests.{le-leb, lt-leb}
 use Rattle.rules.specs.Answer.{Answer, refused, accepted}
-use Rattle.rules.specs.Reader.{Reader, ret, ifR, _>>=_, _>>_, bytes, the, but, either, span, sees, skip, mark, rounds, Turn, again, stop}
+use Rattle.rules.specs.Reader.{Reader, ret, ifR, _>>=_, _>>_, bytes, the, but, either, rounds, Turn, again, stop}
 use Rattle.rules.specs.Bytes.{blank, lineBlank, letter, nameByte}
-use Rattle.rules.specs.Sheet.{Value, nothing, dictionary, Records, end, encode, valueBytes, fieldBytes, word16Bytes, valueLength, set}
+use Rattle.rules.specs.Sheet.{Value, nothing, dictionary, Records, end, encode, fieldBytes, word16Bytes, valueLength, set}
 use Rattle.rules.specs.Definitions.{textValue, value, grown, entryRound, dictionaryValue}
 use Rattle.rules.specs.Laws.Enough.{Moving, rounds-again, rounds-stop}
 use Rattle.rules.specs.Laws.Entries.{shrinks-dictionary, entry-moving}
-use Rattle.scan.specs.Sets.{part, Spans, Sees, Starts, Skips, byteIs, notByte}
+use Rattle.scan.specs.Sets.{part, Spans, Sees, Starts, byteIs, notByte}
 use Rattle.scan.specs.Laws.{sees-the, mark-yes, mark-no}
 use Rattle.scan.specs.Stretches.{spans-but}
 use Rattle.scan.specs.Paths.{tail-part}

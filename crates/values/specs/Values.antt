@@ -1,18 +1,18 @@
 -- Values, read from a text.
 use mathlib.Core.Path.{_≡_, refl, sym, ap, subst, _∙_}
 use mathlib.Core.List.{List, [], _∷_}
-use mathlib.Core.Bool.{Bool, true, false, true≢false, _||_}
+use mathlib.Core.Bool.{true, false, true≢false, _||_}
 use mathlib.Core.List.{_++_}
 use Prim.Native.Nat.{ℕ, zero, suc, _+_, _-_, _≤_, _<_}
 use native.Mathlib.Omega.{arith}
 use native.Mathlib.Decide.{decLe}
-use lib.Dec.{eqb, leb, ltb}
+use lib.Dec.{eqb, ltb}
 use lib.ListN.{length, take, drop, length-append, length-drop}
 use lib.Seq.{sets, drop-drop, length-take-le, take-append-le, take-take}
 use borrow.Author.Tests.{le-leb, lt-leb, ltb-true, ltb-false, eqb-true, eqb-false}
 use Rattle.rules.specs.Answer.{Answer, refused, accepted}
 use Rattle.rules.specs.Reader.{Reader, ret, _>>=_}
-use Rattle.rules.specs.Sheet.{Value, text, nothing, dictionary, Records, encode, valueBytes, valueMask, fieldBytes, fieldMask, word16Bytes, valueLength, resolveString}
+use Rattle.rules.specs.Sheet.{Value, text, nothing, dictionary, Records, encode, fieldBytes, word16Bytes, valueLength, resolveString}
 use Rattle.rules.specs.Strings.{expression}
 use Rattle.rules.specs.Definitions.{measured, textValue}
 use Rattle.rules.specs.Laws.Bool.{or-elim, or-false-l, or-false-r}
@@ -22,7 +22,7 @@ use Rattle.buffers.specs.Laws.{put-length, put-fits, put-not, stored-first}
 use Rattle.buffers.specs.Emits.{put-fill}
 use Rattle.strings.specs.Read.{Wrote}
 use Rattle.sheet.specs.Find.{IsSheet}
-use Rattle.sheet.specs.Write.{IsSource, text-empty, text-full, none-source}
+use Rattle.sheet.specs.Write.{IsSource, text-empty, text-full}
 use Rattle.values.specs.declared.Valued.{Valued}
 
 -- What a value with l levels of dictionaries needs: a slot for each level, and one for a text.

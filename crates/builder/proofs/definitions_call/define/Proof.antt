@@ -9,9 +9,8 @@ use Rattle.builder.proofs.given.sheet_limit.Reads as sheet-limit-reads
 use Rattle.definitions.proofs.files.parse.Reads as parse-reads
 use Rattle.scan.proofs.is_ascii.Reads as is-ascii-reads
 use Rattle.scan.proofs.paths.parent.Reads as parent-reads
-use mathlib.Core.Path.{_≡_, refl, sym, ap, _∙_}
+use mathlib.Core.Path.{_≡_, refl, sym, _∙_}
 use native.Mathlib.Omega.{arith}
-use lib.ListN.{length}
 use lib.Seq.{length-take-le}
 use native.Mathlib.Nat.{sub-zero}
 use Rattle.rules.specs.Calls.{padded}

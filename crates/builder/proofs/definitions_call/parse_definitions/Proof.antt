@@ -8,7 +8,7 @@ use Rattle.builder.proofs.definitions_call.no_definitions.Reads as no-d
 use Rattle.builder.proofs.given.sheet_limit.Reads as sheet-limit-reads
 use Rattle.bundle.proofs.check.Reads as check-reads
 use Rattle.bundle.proofs.fetch.Reads as fetch-reads
-use mathlib.Core.Path.{_≡_, refl, sym, ap, _∙_}
+use mathlib.Core.Path.{_≡_, refl, sym, _∙_}
 use native.Mathlib.Omega.{arith}
 use lib.ListN.{length}
 use borrow.Author.Tests.{not-true, not-false}

@@ -16,7 +16,7 @@ use Rattle.definitions.proofs.imports.find_import.Reads as find-import-
 use Rattle.scan.proofs.starts_with.Reads as starts-with-reads
 use Rattle.definitions.proofs.files.+parse+step.{statement}
 use Rattle.definitions.proofs.files.+parse+step.Tie.{close}
-use mathlib.Core.Path.{_≡_, refl, sym, ap, _∙_}
+use mathlib.Core.Path.{_≡_, refl, sym, _∙_}
 use Prim.Native.Nat.{_+_, _-_, _*_, _≤_}
 use native.Mathlib.Omega.{arith}
 use borrow.Author.Needs.{needs}

@@ -5,7 +5,6 @@ use Rattle.definitions.proofs.imports.open_import.Reads as reads
 use Rattle.definitions.proofs.imports.open_import.Lts as lts
 use Rattle.bundle.proofs.find.Reads as find-reads
 use Rattle.definitions.proofs.imports.file_target.Reads as file-target-reads
-use native.Mathlib.Omega.{arith}
 use borrow.Author.Tests.{not-true, not-false}
 use Rattle.bundle.specs.Check.{start-length}
 use Rattle.definitions.specs.Import.{found-inside, open-four, open-absent, open-folder, open-file}
