@@ -2,8 +2,9 @@
 use mathlib.Core.Path.{_≡_, sym, ap, _∙_}
 use mathlib.Core.List.{List}
 use mathlib.Core.Bool.{Bool, true, false}
-use Prim.Native.Nat.{ℕ, _+_, _*_, _-_, _≤_, _<_}
+use Prim.Native.Nat.{ℕ, zero, suc, _+_, _*_, _-_, _≤_, _<_}
 use native.Mathlib.Omega.{arith}
+use native.Mathlib.Nat.{add-zero}
 use lib.ListN.{length, take, drop}
 use borrow.Author.Tests.{le-leb, lt-leb}
 use Rattle.rules.specs.Answer.{Answer, _>>=_, _>>_, check, orRefuse}
@@ -81,9 +82,18 @@ module _ (b p : List ℕ) (l w : ℕ) where
       definitions-file o q = from-file (o .says ∙ ap (answerOf b) q)
 
 -- THE FILE.
-pub define-room : {w : List ℕ} (L : ℕ) → L ≤ 65535 → 16 * L ≤ length w → Room w L (6 + 6)
+more-slots : (L k d : ℕ) → slots L k ≤ slots L (k + d)
 unfolding slots
-define-room L h k = record { fits = omega arith; most = h }
+more-slots L k zero = rw add-zero (omega arith)
+more-slots L k (suc d) = let e : k + suc d ≡ suc (k + d) = omega arith in rw e (omega (arith, more-slots L k d))
+
+-- 16 × L has room for the slots of 15 levels, of imports and of dictionaries.
+pub define-room : {w : List ℕ} (k L : ℕ) → k ≤ 15 → L ≤ 65535 → 16 * L ≤ length w → Room w L k
+unfolding slots
+define-room k L h i j =
+    let e : k + (15 - k) ≡ 15 = omega arith in
+    let f : slots L k ≤ slots L 15 = rw e at (more-slots L k (15 - k)) in
+    record { fits = omega arith; most = i }
 
 module _ (b p : List ℕ) (s n : ℕ) (l w : List ℕ) where
   content : part b s (s + n) ≡ take n (drop s b)

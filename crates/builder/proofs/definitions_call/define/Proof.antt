@@ -63,7 +63,7 @@ part-parse-end : tie.Need-part-parse-end
 part-parse-end c = search needs
 
 parse-requires : tie.Need-parse-requires
-parse-requires c κs = (c .before .before .before .before .before .before .before .before .before .before .before .before .before .pre .0, sym (c .before .before .before .before .before .before .before .is-ascii .ensures) ∙ not-false _ (c .before .before .before .before .before .before .if1 .left), limit-within _ (c .before .before .before .before .sheet-limit .ensures), define-room _ (limit-small _ (c .before .before .before .before .sheet-limit .ensures)) (omega (arith, c .before .before .before .before .sheet-limit .ensures, c .before .before .before .before .before .before .before .before .before .before .before .before .before .pre .2)))
+parse-requires c κs = (c .before .before .before .before .before .before .before .before .before .before .before .before .before .pre .0, sym (c .before .before .before .before .before .before .before .is-ascii .ensures) ∙ not-false _ (c .before .before .before .before .before .before .if1 .left), limit-within _ (c .before .before .before .before .sheet-limit .ensures), define-room _ _ (omega arith) (limit-small _ (c .before .before .before .before .sheet-limit .ensures)) (omega (arith, c .before .before .before .before .sheet-limit .ensures, c .before .before .before .before .before .before .before .before .before .before .before .before .before .pre .2)))
 
 no-definitions-requires-2 : tie.Need-no-definitions-requires-2
 no-definitions-requires-2 c κs = search needs
