@@ -15,7 +15,7 @@ use Rattle.rules.specs.Reader.{all, span}
 use Rattle.rules.specs.Bytes.{blank}
 use Rattle.rules.specs.Calls.{zeros, padded}
 use Rattle.rules.specs.Laws.Bool.{and-l, and-r, and-i, or-l, or-false-l, or-false-r, true-leb, true-ltb, false-ltb, false-eqb}
-use Rattle.buffers.specs.Put.{step, after, spill, Writer, Put}
+use Rattle.buffers.specs.Put.{step, after, overflow, Writer, Put}
 
 -- PLACES.
 pub after-append : (room p : ℕ) (v w : List ℕ) → after room p (v ++ w) ≡ after room (after room p v) w
@@ -27,8 +27,8 @@ step-on : (room p x : ℕ) → p < room → step room p x ≡ p + 1
 unfolding step
 step-on room p x h = rw (lt-ltb p room h, step)
 
-step-past : (room p x : ℕ) (c : Bool) → blank x ≡ c → room ≤ p → p ≤ room + 1 → step room p x ≡ spill room c
-unfolding step spill
+step-past : (room p x : ℕ) (c : Bool) → blank x ≡ c → room ≤ p → p ≤ room + 1 → step room p x ≡ overflow room c
+unfolding step overflow
 step-past room p x true q h k = rw (le-ltb p room h, le-leb p (room + 1) k, q, step)
 step-past room p x false q h k = rw (le-ltb p room h, le-leb p (room + 1) k, q, step)
 
@@ -46,30 +46,30 @@ unfolding after
 after-over room [] = refl
 after-over room (x ∷ xs) = rw (step-over room x) (after-over room xs)
 
-spill-more : (room x : ℕ) (xs : List ℕ) (c : Bool) → blank x ≡ c → ((p : ℕ) → room ≤ p → p ≤ room + 1 → 0 < length xs → after room p xs ≡ spill room (all blank xs)) → after room (spill room c) xs ≡ spill room (c && all blank xs)
-unfolding spill
-spill-more room x [] true q ih = unfold after all in refl
-spill-more room x (y ∷ ys) true q ih = ih (room + 1) (omega arith) (omega arith) (omega arith)
-spill-more room x xs false q ih = after-over room xs
+overflow-more : (room x : ℕ) (xs : List ℕ) (c : Bool) → blank x ≡ c → ((p : ℕ) → room ≤ p → p ≤ room + 1 → 0 < length xs → after room p xs ≡ overflow room (all blank xs)) → after room (overflow room c) xs ≡ overflow room (c && all blank xs)
+unfolding overflow
+overflow-more room x [] true q ih = unfold after all in refl
+overflow-more room x (y ∷ ys) true q ih = ih (room + 1) (omega arith) (omega arith) (omega arith)
+overflow-more room x xs false q ih = after-over room xs
 
-pub after-spill : (room p : ℕ) (v : List ℕ) → room ≤ p → p ≤ room + 1 → 0 < length v → after room p v ≡ spill room (all blank v)
+pub after-overflow : (room p : ℕ) (v : List ℕ) → room ≤ p → p ≤ room + 1 → 0 < length v → after room p v ≡ overflow room (all blank v)
 unfolding after all
-after-spill room p [] h k l = absurd (omega arith)
-after-spill room p (x ∷ xs) h k l =
-    ap (λ z. after room z xs) (step-past room p x (blank x) refl h k) ∙ spill-more room x xs (blank x) refl (λ q a b c. after-spill room q xs a b c)
+after-overflow room p [] h k l = absurd (omega arith)
+after-overflow room p (x ∷ xs) h k l =
+    ap (λ z. after room z xs) (step-past room p x (blank x) refl h k) ∙ overflow-more room x xs (blank x) refl (λ q a b c. after-overflow room q xs a b c)
 
-pub after-split : (room p : ℕ) (v : List ℕ) → p ≤ room → room < p + length v → after room p v ≡ spill room (all blank (drop (room - p) v))
+pub after-split : (room p : ℕ) (v : List ℕ) → p ≤ room → room < p + length v → after room p v ≡ overflow room (all blank (drop (room - p) v))
 after-split room p v h k =
     let n = room - p in
     let l : length (take n v) ≡ n = length-take-le n v (omega arith) in
     let e : after room p (take n v) ≡ room = after-fits room p (take n v) (omega arith) ∙ omega arith in
     let d : 0 < length (drop n v) = omega (arith, length-drop n v) in
-    ap (after room p) (sym (take-append-drop n v)) ∙ after-append room p (take n v) (drop n v) ∙ ap (λ z. after room z (drop n v)) e ∙ after-spill room room (drop n v) (omega arith) (omega arith) d
+    ap (after room p) (sym (take-append-drop n v)) ∙ after-append room p (take n v) (drop n v) ∙ ap (λ z. after room z (drop n v)) e ∙ after-overflow room room (drop n v) (omega arith) (omega arith) d
 
-spill-bounds : (room : ℕ) (c : Bool) → (room < spill room c) × (spill room c ≤ room + 2)
-unfolding spill
-spill-bounds room true = (omega arith, omega arith)
-spill-bounds room false = (omega arith, omega arith)
+overflow-bounds : (room : ℕ) (c : Bool) → (room < overflow room c) × (overflow room c ≤ room + 2)
+unfolding overflow
+overflow-bounds room true = (omega arith, omega arith)
+overflow-bounds room false = (omega arith, omega arith)
 
 -- Where a text ends up: it has fitted, or the writer is past its room.
 pub record Ended (room p : ℕ) (v : List ℕ) : Type 0 where
@@ -81,17 +81,17 @@ pub record Ended (room p : ℕ) (v : List ℕ) : Type 0 where
 ended-fits : (room p : ℕ) (v : List ℕ) → p + length v ≤ room → Ended room p v
 ended-fits room p v h = let e = after-fits room p v h in record { bound = omega arith; on = omega arith; fits = λ k. e; not = λ k. absurd (omega arith) }
 
-ended-spill : (room p : ℕ) (v : List ℕ) (c : Bool) → after room p v ≡ spill room c → p ≤ room + 1 → room < p + length v → Ended room p v
-ended-spill room p v c e h k = let b = spill-bounds room c in record { bound = omega arith; on = omega arith; fits = λ z. absurd (omega arith); not = λ z. k }
+ended-overflow : (room p : ℕ) (v : List ℕ) (c : Bool) → after room p v ≡ overflow room c → p ≤ room + 1 → room < p + length v → Ended room p v
+ended-overflow room p v c e h k = let b = overflow-bounds room c in record { bound = omega arith; on = omega arith; fits = λ z. absurd (omega arith); not = λ z. k }
 
 pub ended : (room p : ℕ) (v : List ℕ) → p ≤ room + 2 → Ended room p v
 ended room p v h = go (decLe p room) (decLe (p + length v) room) (decLe p (room + 1)) v refl
   where
     go : Dec (p ≤ room) → Dec (p + length v ≤ room) → Dec (p ≤ room + 1) → (w : List ℕ) → w ≡ v → Ended room p v
     go a (yes b) c w q = ended-fits room p v b
-    go (yes a) (no b) c w q = ended-spill room p v _ (after-split room p v a (omega arith)) (omega arith) (omega arith)
+    go (yes a) (no b) c w q = ended-overflow room p v _ (after-split room p v a (omega arith)) (omega arith) (omega arith)
     go (no a) (no b) (yes c) [] q = let e : after room p v ≡ p = ap (after room p) (sym q) ∙ (unfold after in refl) in record { bound = omega arith; on = omega arith; fits = λ k. absurd (omega arith); not = λ k. omega arith }
-    go (no a) (no b) (yes c) (x ∷ xs) q = ended-spill room p v _ (after-spill room p v (omega arith) c (omega (arith, ap length q))) c (omega arith)
+    go (no a) (no b) (yes c) (x ∷ xs) q = ended-overflow room p v _ (after-overflow room p v (omega arith) c (omega (arith, ap length q))) c (omega arith)
     go (no a) (no b) (no c) w q = let e : p ≡ room + 2 = omega arith in let f : after room p v ≡ room + 2 = ap (λ z. after room z v) e ∙ after-over room v in record { bound = omega arith; on = omega arith; fits = λ k. absurd (omega arith); not = λ k. omega arith }
 
 -- STORES.
@@ -215,11 +215,11 @@ unfolding after
 byte-on room p x h = sym (step-on room p x h)
 
 pub byte-soft : (room p x : ℕ) (c : Bool) → c ≡ blank x → room ≤ p → (leb p (room + 1) && c) ≡ true → room + 1 ≡ after room p (x ∷ [])
-unfolding after spill
+unfolding after overflow
 byte-soft room p x c e h k = sym (step-past room p x true (sym e ∙ and-r (leb p (room + 1)) c k) h (true-leb p (room + 1) (and-l (leb p (room + 1)) c k)))
 
 pub byte-full : (room p x : ℕ) (c : Bool) → c ≡ blank x → room ≤ p → p ≤ room + 2 → (leb p (room + 1) && c) ≡ false → room + 2 ≡ after room p (x ∷ [])
-unfolding after spill
+unfolding after overflow
 byte-full room p x true e h l k = go (decLe p (room + 1))
   where
     go : Dec (p ≤ room + 1) → room + 2 ≡ step room p x
@@ -239,8 +239,8 @@ after-stays room p (x ∷ xs) h k =
     let q : p ≡ room + 2 = omega arith in
     q ∙ sym (ap (λ z. after room z (x ∷ xs)) q ∙ after-over room (x ∷ xs))
 
-pub after-past : (room p : ℕ) (v : List ℕ) → room < p → (ltb (room + 1) p || eqb (length v) 0) ≡ false → spill room (all blank (drop 0 v)) ≡ after room p v
+pub after-past : (room p : ℕ) (v : List ℕ) → room < p → (ltb (room + 1) p || eqb (length v) 0) ≡ false → overflow room (all blank (drop 0 v)) ≡ after room p v
 after-past room p v h k =
     let a = false-ltb (room + 1) p (or-false-l (ltb (room + 1) p) _ k) in
     let b = false-eqb (length v) 0 (or-false-r (ltb (room + 1) p) _ k) in
-    sym (after-spill room p v (omega arith) a (omega arith))
+    sym (after-overflow room p v (omega arith) a (omega arith))

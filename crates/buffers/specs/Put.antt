@@ -17,9 +17,9 @@ after room p [] = p
 after room p (x ∷ xs) = after room (step room p x) xs
 
 -- Where a writer goes on that has no room left, by whether all that comes is blank.
-unfoldable pub spill : ℕ → Bool → ℕ
-spill room true = room + 1
-spill room false = room + 2
+unfoldable pub overflow : ℕ → Bool → ℕ
+overflow room true = room + 1
+overflow room false = room + 2
 
 -- A place of a writer; its numbers fit.
 pub record Writer (room p : ℕ) : Type 0 where

@@ -7,7 +7,7 @@ ghost use lib.Seq.{sets};
 ghost use Rattle.rules.specs.Reader.{all};
 ghost use Rattle.rules.specs.Bytes.{blank};
 ghost use Rattle.rules.specs.Calls.{padded};
-ghost use Rattle.buffers.specs.Put.{spill, after, Put, Writer};
+ghost use Rattle.buffers.specs.Put.{overflow, after, Put, Writer};
 
 // How many bytes of a text of n bytes a buffer of m bytes takes from a place on.
 fn clipped(m: usize, at: usize, n: usize) -> usize
@@ -35,9 +35,9 @@ pub fn store(out: &mut [u8], at: usize, text: &[u8])
 }
 
 // Where a writer goes on that has no room for the bytes of a text from a place on.
-fn spill(room: usize, text: &[u8], at: usize) -> usize
+fn overflow(room: usize, text: &[u8], at: usize) -> usize
     requires { ⌜ (at ≤ length (now text)) × (room + 2 < 2 ^ 64) ⌝ }
-    ensures { λ r. ⌜ r ≡ spill room (all blank (drop at (now (text .entry)))) ⌝ }
+    ensures { λ r. ⌜ r ≡ overflow room (all blank (drop at (now (text .entry)))) ⌝ }
 {
     if scan::span(text, at, scan::Set::Blank) == text.len() {
         return room + 1;
@@ -55,12 +55,12 @@ pub fn after(room: usize, p: usize, text: &[u8]) -> usize
         if text.len() <= left {
             return p + text.len();
         }
-        return spill(room, text, left);
+        return overflow(room, text, left);
     }
     if (room + 1 < p) | (text.len() == 0) {
         return p;
     }
-    spill(room, text, 0)
+    overflow(room, text, 0)
 }
 
 // Puts a text behind what the writer at p has written. An empty buffer measures and writes nothing.

@@ -25,7 +25,7 @@ use Rattle.expansion.specs.declared.Expanded.{Expanded as Ran}
 use Rattle.expansion.specs.Run.{Expands}
 use Rattle.builder.specs.Text.{RefusesBoth}
 use Rattle.builder.specs.Laws.{written-first}
-use Rattle.builder.specs.Given.{limit-le, given, given-then, Fine, fine-given, Judges}
+use Rattle.builder.specs.Given.{limit-le, given, given-then, GoodArguments, good-given, Judges}
 
 pub refused-both : (v : Expanded) (k n l : ℕ) (o o₂ m m₂ : List ℕ) (number len sheetLen : ℕ) → v ≡ record { number = k; len = 0; sheetLen = 0; out = zeros n; left = zeros l } → n ≡ length o → l ≡ length m →
     RefusesBoth o o₂ m m₂ k number len sheetLen → v ≡ record { number = number; len = len; sheetLen = sheetLen; out = o₂; left = m₂ }
@@ -102,11 +102,11 @@ module _ (b t z : List ℕ) (n l : ℕ) where
   expansion-refused j h = as-given ∙ ap (λ x. expandedAnswer n l (Then x)) (j .no h)
 
   -- In reading.
-  in-reading : (f : Fine b [] t z (limit l)) → preprocessTypstOf b t z n l ≡ expandedAnswer n l (expanded (view (entriesOf b)) (limit l) n (f .sheets .r) t)
+  in-reading : (f : GoodArguments b [] t z (limit l)) → preprocessTypstOf b t z n l ≡ expandedAnswer n l (expanded (view (entriesOf b)) (limit l) n (f .sheets .r) t)
   unfolding _>>=_
-  in-reading f = as-given ∙ ap (λ x. expandedAnswer n l (Then x)) (fine-given f)
+  in-reading f = as-given ∙ ap (λ x. expandedAnswer n l (Then x)) (good-given f)
 
-module _ (b t z l₀ : List ℕ) {o : List ℕ} (f : Fine b [] t z (limit (length l₀))) {c m : List ℕ} {r : Ran} (E : Expands (limit (length l₀)) 11 (view (entriesOf b)) t o 0 c (sets l₀ 0 z) (length z) m r) where
+module _ (b t z l₀ : List ℕ) {o : List ℕ} (f : GoodArguments b [] t z (limit (length l₀))) {c m : List ℕ} {r : Ran} (E : Expands (limit (length l₀)) 11 (view (entriesOf b)) t o 0 c (sets l₀ 0 z) (length z) m r) where
   pub expansion-stopped : r .ok ≡ false → preprocessTypstOf b t z (length o) (length l₀) ≡ record { number = r .number; len = 0; sheetLen = 0; out = zeros (length o); left = zeros (length l₀) }
   unfolding expandedAnswer
   expansion-stopped e = in-reading b t z (length o) (length l₀) f ∙ ap (expandedAnswer (length o) (length l₀)) (expanded-stops l₀ (f .sheets) (f .fits) E e)

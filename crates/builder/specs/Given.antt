@@ -30,7 +30,7 @@ given bundle folder text sheet L = do
   accepted (es, s)
 
 -- The arguments keep the rules.
-pub record Fine (bundle folder text sheet : List ℕ) (L : ℕ) : Type 0 where
+pub record GoodArguments (bundle folder text sheet : List ℕ) (L : ℕ) : Type 0 where
   pub bundles : isSome (bundleOf bundle) ≡ true
   pub sheets : Checked sheet
   pub folders : isFolder folder ≡ true
@@ -40,11 +40,11 @@ pub record Fine (bundle folder text sheet : List ℕ) (L : ℕ) : Type 0 where
 -- k is the refusal, or 0.
 pub record Judges (bundle folder text sheet : List ℕ) (L k : ℕ) : Type 0 where
   pub no : (k ≡ 0 → ⊥) → given bundle folder text sheet L ≡ refused k
-  pub yes : k ≡ 0 → Fine bundle folder text sheet L
+  pub yes : k ≡ 0 → GoodArguments bundle folder text sheet L
 
-pub fine-given : {bundle folder text sheet : List ℕ} {L : ℕ} (f : Fine bundle folder text sheet L) → given bundle folder text sheet L ≡ accepted (entriesOf bundle, f .sheets .r)
+pub good-given : {bundle folder text sheet : List ℕ} {L : ℕ} (f : GoodArguments bundle folder text sheet L) → given bundle folder text sheet L ≡ accepted (entriesOf bundle, f .sheets .r)
 unfolding given orRefuse check _>>=_ _>>_ sheetLength
-fine-given {bundle} {folder} {text} {sheet} {L} f =
+good-given {bundle} {folder} {text} {sheet} {L} f =
     let x = true-some (bundleOf bundle) (f .bundles) in
     let s = f .sheets in
     rw (x .1, s .of, f .folders, f .texts, sym (s .bytes), le-leb (length sheet) L (f .fits), entries-some bundle (x .0) (x .1)) refl

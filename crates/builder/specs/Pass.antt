@@ -28,7 +28,7 @@ use Rattle.expansion.specs.declared.Expanded.{Expanded as Ran}
 use Rattle.sheet.specs.Use.{Keeps}
 use Rattle.expansion.specs.Run.{Expands}
 use Rattle.builder.specs.declared.pass_call.Passed.{Passed}
-use Rattle.builder.specs.Given.{given, given-then, Fine, fine-given, Judges}
+use Rattle.builder.specs.Given.{given, given-then, GoodArguments, good-given, Judges}
 use Rattle.builder.specs.Includes.{Middle, middle-stops, middle-goes}
 use Rattle.builder.specs.Expansion.{sheet-keeps, expanded-stops, expanded-goes, left-length}
 
@@ -38,7 +38,7 @@ refusedPass k = record { number = k; len = 0; sheet = 0; closed = false }
 -- The arguments keep the rules, for the limit of the sheet's buffer.
 pub record Begins (bundle folder text sheet left : List ℕ) (L : ℕ) : Type 0 where
   pub limits : L ≡ limit (length left)
-  pub fine : Fine bundle folder text sheet (limit (length left))
+  pub good : GoodArguments bundle folder text sheet (limit (length left))
 
 -- What a pass came to, before its buffers are cleared: the results stand at their starts.
 pub record Passes (bundle folder text sheet middle middle₂ out out₂ left left₂ : List ℕ) (r : Passed) : Type 0 where
@@ -89,14 +89,14 @@ module _ (b g t z : List ℕ) (m n l : ℕ) where
   unfolding _>>=_
   pass-judged j h = as-given ∙ ap (λ x. x >>= Then) (j .no h)
 
-  in-reading : (f : Fine b g t z (limit l)) → passResult b g t z m n l ≡ passed (view (entriesOf b)) (limit l) m n g (f .sheets .r) t
+  in-reading : (f : GoodArguments b g t z (limit l)) → passResult b g t z m n l ≡ passed (view (entriesOf b)) (limit l) m n g (f .sheets .r) t
   unfolding _>>=_
-  in-reading f = as-given ∙ ap (λ x. x >>= Then) (fine-given f)
+  in-reading f = as-given ∙ ap (λ x. x >>= Then) (good-given f)
 
   -- Closed, for such arguments.
-  closed-fine : (f : Fine b g t z (limit l)) → closedOf b g t z ≡ closed (view (entriesOf b)) g (f .sheets .r) t
+  closed-good : (f : GoodArguments b g t z (limit l)) → closedOf b g t z ≡ closed (view (entriesOf b)) g (f .sheets .r) t
   unfolding closedOf closedIn
-  closed-fine f =
+  closed-good f =
       let x = true-some (bundleOf b) (f .bundles) in
       rw (x .1, f .sheets .of, f .folders, f .texts, entries-some b (x .0) (x .1)) refl
 
@@ -104,11 +104,11 @@ module _ (b g t z : List ℕ) (m n l : ℕ) where
 module _ {b g t z l₀ : List ℕ} {L : ℕ} (B : Begins b g t z l₀ L) {m c : List ℕ} {y : Bool} {k q : ℕ} {w : Bool}
     (R : Resolves 10 (length m) (run (includeStep (view (entriesOf b)) (insideFile (view (entriesOf b)) 6) g) [] 0 t) m 0 c y k q w) where
   abbrev Expansion : ℕ → Answer (List ℕ × List ℕ) → Answer (List ℕ × Records)
-  Expansion n a = a >>= λ x. expanded (view (entriesOf b)) (limit (length l₀)) n (B .fine .sheets .r) (x .0)
+  Expansion n a = a >>= λ x. expanded (view (entriesOf b)) (limit (length l₀)) n (B .good .sheets .r) (x .0)
 
   pub run-stopped : y ≡ false → {o : List ℕ} {p : Passed} → p ≡ refusedPass k → Passes b g t z m c o o l₀ l₀ p
   unfolding passed _>>=_
-  run-stopped e {o} h = passes-refused h (R .emits .size) refl refl (in-reading b g t z (length m) (length o) (length l₀) (B .fine) ∙ ap (Expansion (length o)) (middle-stops (view (entriesOf b)) g t R e))
+  run-stopped e {o} h = passes-refused h (R .emits .size) refl refl (in-reading b g t z (length m) (length o) (length l₀) (B .good) ∙ ap (Expansion (length o)) (middle-stops (view (entriesOf b)) g t R e))
 
   module _ (e : y ≡ true) where
     M : Middle (view (entriesOf b)) 10 (length m) g t c q w
@@ -118,34 +118,34 @@ module _ {b g t z l₀ : List ℕ} {L : ℕ} (B : Begins b g t z l₀ L) {m c : 
     run-inside = omega (arith, M .fits, R .emits .size)
 
     pub run-ascii : all ascii (take q c) ≡ true
-    run-ascii = rw (M .is) (middle-plain (view (entriesOf b)) g t (B .fine .texts))
+    run-ascii = rw (M .is) (middle-plain (view (entriesOf b)) g t (B .good .texts))
 
     module _ {l₁ : List ℕ} (S : l₁ ≡ sets l₀ 0 z) where
       pub run-keeps : Keeps l₁ (length z) L
-      run-keeps = rw (S, B .limits) (sheet-keeps l₀ (B .fine .sheets) (B .fine .fits))
+      run-keeps = rw (S, B .limits) (sheet-keeps l₀ (B .good .sheets) (B .good .fits))
 
       module _ {o o₂ l₂ : List ℕ} {r : Ran} (E : Expands L 11 (view (entriesOf b)) (take q c) o 0 o₂ l₁ (length z) l₂ r) where
         F : Expands (limit (length l₀)) 11 (view (entriesOf b)) (take q c) o 0 o₂ (sets l₀ 0 z) (length z) l₂ r
         F = rw (S, B .limits) at E
 
-        then-expanded : passResult b g t z (length m) (length o) (length l₀) ≡ expanded (view (entriesOf b)) (limit (length l₀)) (length o) (B .fine .sheets .r) (take q c)
+        then-expanded : passResult b g t z (length m) (length o) (length l₀) ≡ expanded (view (entriesOf b)) (limit (length l₀)) (length o) (B .good .sheets .r) (take q c)
         unfolding passed _>>=_
-        then-expanded = in-reading b g t z (length m) (length o) (length l₀) (B .fine) ∙ ap (Expansion (length o)) (M .says)
+        then-expanded = in-reading b g t z (length m) (length o) (length l₀) (B .good) ∙ ap (Expansion (length o)) (M .says)
 
         left-same : length l₂ ≡ length l₀
-        left-same = left-length l₀ (B .fine .sheets) (B .fine .fits) F
+        left-same = left-length l₀ (B .good .sheets) (B .good .fits) F
 
         pub run-refused : r .ok ≡ false → {p : Passed} → p ≡ refusedPass (r .number) → Passes b g t z m c o o₂ l₀ l₂ p
-        run-refused x h = passes-refused h (R .emits .size) (E .size) left-same (then-expanded ∙ expanded-stops l₀ (B .fine .sheets) (B .fine .fits) F x)
+        run-refused x h = passes-refused h (R .emits .size) (E .size) left-same (then-expanded ∙ expanded-stops l₀ (B .good .sheets) (B .good .fits) F x)
 
         pub run-done : r .ok ≡ true → {n : Bool} → n ≡ endsInNewline t → Passes b g t z m c o o₂ l₀ l₂ (record { number = 0; len = r .next; sheet = r .len; closed = n && w && r .whole })
         unfolding passOf passedAnswer closed
         run-done x {n} h =
             let v = view (entriesOf b) in
-            let s = B .fine .sheets .r in
-            let W = expanded-goes l₀ (B .fine .sheets) (B .fine .fits) F x in
+            let s = B .good .sheets .r in
+            let W = expanded-goes l₀ (B .good .sheets) (B .good .fits) F x in
             let a : closedOf b g t z ≡ (n && w && r .whole) =
-            closed-fine b g t z (length m) (length o) (length l₀) (B .fine) ∙ (λ i. sym h i && M .wholes i && allWhole (expansion v s (sym (M .is) i))) ∙ ap (λ j. n && w && j) (W .wholes) in
+            closed-good b g t z (length m) (length o) (length l₀) (B .good) ∙ (λ i. sym h i && M .wholes i && allWhole (expansion v s (sym (M .is) i))) ∙ ap (λ j. n && w && j) (W .wholes) in
             record {
               middle-size = R .emits .size;
               out-size = E .size;

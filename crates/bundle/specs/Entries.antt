@@ -14,7 +14,7 @@ use lib.Seq.{drop-drop, length-take-le}
 use borrow.Author.Tests.{le-ltb, lt-ltb, leb-true, leb-false, not-true, not-false, eq-eqb, ne-eqb, le-leb, lt-leb, ltb-true, ltb-false, eqb-true, eqb-false}
 use Rattle.rules.specs.Reader.{empty, all, but}
 use Rattle.rules.specs.Bytes.{holds, join}
-use Rattle.rules.specs.Layout.{Parser, bind, _>>=_, _>>_, pure, broken, require, bit, remaining, byte, word16, field, fieldIf, take as takeBytes}
+use Rattle.rules.specs.Layout.{Parser, bind, _>>=_, _>>_, pure, broken, require, bit, remaining, byte, word16, field, fieldIf, takeBytes}
 use Rattle.rules.specs.Bundle.{Entry, entry}
 use Rattle.rules.specs.Laws.Bool.{and-l, and-r, and-i, or-elim, or-false-l, or-false-r}
 use Rattle.rules.specs.Laws.Layout.{byte-at, byte-end, word-at, word-end, takes, takes-short, take-some}

@@ -27,14 +27,14 @@ pub fn check(b: &[u8]) -> bool
     if b.len() < 2 {
         return false;
     }
-    let mut left = word(b, 0);
+    let mut remaining = word(b, 0);
     let mut w = walk::start(true);
-    while 0 < left {
+    while 0 < remaining {
         w = walk::next(b, w);
         if !w.ok {
             return false;
         }
-        left -= 1;
+        remaining -= 1;
     }
     w.at == b.len()
 }
@@ -51,10 +51,10 @@ pub fn find(b: &[u8], path: &[u8]) -> Found
     requires { ⌜ isSome (bundleOf (now b)) ≡ true ⌝ }
     ensures { λ r. ⌜ Finds (now (b .entry)) (entriesOf (now (b .entry))) (now (path .entry)) r ⌝ }
 {
-    let mut left = word(b, 0);
+    let mut remaining = word(b, 0);
     let mut at: usize = 2;
     let mut folder = false;
-    while 0 < left {
+    while 0 < remaining {
         let h = entry_at(b, at);
         let n = near::relate(b, h, path);
         if n.same {
@@ -65,7 +65,7 @@ pub fn find(b: &[u8], path: &[u8]) -> Found
         }
         folder = folder | n.below;
         at = h.content.start + h.content.len;
-        left -= 1;
+        remaining -= 1;
     }
     if folder {
         return Found::Folder;

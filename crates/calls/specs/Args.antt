@@ -29,7 +29,7 @@ abbrev pub argumentsFrom : (List ℕ → List ℕ) → List ℕ × Bool → Read
 argumentsFrom look a = rounds (argumentRound look) (λ a. arguments (a .0) (a .1)) a
 
 -- From i on `lang` takes the value of r. The bundle b has no part in it.
-pub record Speaks (look : List ℕ → List ℕ) (b t : List ℕ) (i : ℕ) (r : Lang) : Type 0 where
+pub record IsLanguage (look : List ℕ → List ℕ) (b t : List ℕ) (i : ℕ) (r : Lang) : Type 0 where
   pub on : i ≤ r .at
   pub inside : r .at ≤ length t
   pub lies : Inside b t (r .value)
@@ -60,7 +60,7 @@ Sets look b t i (Block d e) = Takes look t i e (λ a s. again (a .0, d))
 Sets look b t i (Nothing e) = Takes look t i e unset
 
 -- From i on the arguments stall, or are those of r. The bundle b has no part in them.
-pub record Argued (look : List ℕ → List ℕ) (b t : List ℕ) (i : ℕ) (r : Args) : Type 0 where
+pub record IsArguments (look : List ℕ → List ℕ) (b t : List ℕ) (i : ℕ) (r : Args) : Type 0 where
   pub on : i ≤ r .at
   pub inside : r .at ≤ length t
   pub lies : Inside b t (r .lang)
@@ -69,9 +69,9 @@ pub record Argued (look : List ℕ → List ℕ) (b t : List ℕ) (i : ℕ) (r :
 
 -- WHAT `lang` TAKES.
 module _ (look : List ℕ → List ℕ) (b : List ℕ) {t : List ℕ} {i : ℕ} {q : Bool} (s : Sees (byteIs 34) t i q) where
-  pub speaks-literal : {k : ℕ} → q ≡ true → Ends (literal (part t (i + 1) (length t))) (part t (i + 1) (length t)) k → Speaks look b t i (record { value = Literal (i + 1); at = i + 1 + k })
+  pub language-literal : {k : ℕ} → q ≡ true → Ends (literal (part t (i + 1) (length t))) (part t (i + 1) (length t)) k → IsLanguage look b t i (record { value = Literal (i + 1); at = i + 1 + k })
   unfolding langValue _>>=_ _>>_ ifR ret valueText Inside
-  speaks-literal {k} e w =
+  language-literal {k} e w =
       let h : i < length t = s .there e in
       let v : Ends (literal (drop (i + 1) t)) (drop (i + 1) t) k = rw tail-part at w in
       let r : literal (drop (i + 1) t) .1 ≡ drop (i + 1 + k) t = v .rest ∙ drop-drop k (i + 1) t in
@@ -82,9 +82,9 @@ module _ (look : List ℕ → List ℕ) (b : List ℕ) {t : List ℕ} {i : ℕ} 
         takes = λ z. rw (sees-the "\"" s e .says, skip-at t i h, r) refl;
       }
 
-  pub speaks-reference : {k : ℕ} → q ≡ false → Spans runByte t i k → Speaks look b t i (record { value = Reference i k; at = k })
+  pub language-reference : {k : ℕ} → q ≡ false → Spans runByte t i k → IsLanguage look b t i (record { value = Reference i k; at = k })
   unfolding langValue reference _>>=_ _>>_ ifR ret valueText Inside
-  speaks-reference e n = record {
+  language-reference e n = record {
     on = n .on;
     inside = n .inside;
     lies = (n .on, n .inside);
@@ -140,7 +140,7 @@ module _ {t : List ℕ} {i n c : ℕ} (N : Spans word t i n) (C : Spans (either 
     unfolding named _>>=_
     named-at a g = rw (N .took, N .rest, C .took, C .rest, both-empty g) refl
 
-    pub sets-language : {q : Bool} {r : Lang} → q ≡ same (part t i n) (bytes "lang") → q ≡ true → Speaks look b t c r → Sets look b t i (Language (r .value) (r .at))
+    pub sets-language : {q : Bool} {r : Lang} → q ≡ same (part t i n) (bytes "lang") → q ≡ true → IsLanguage look b t c r → Sets look b t i (Language (r .value) (r .at))
     unfolding Sets argumentValue ifR
     sets-language {q} {r} l e s = (
       s .lies,
@@ -218,7 +218,7 @@ module _ {look : List ℕ → List ℕ} {b t : List ℕ} {i₀ i : ℕ} {lang : 
   args-stop {y} k r = x .left ∙ rounds-stop (argumentRound look) (λ a. arguments (a .0) (a .1)) (argument-moving look) (valueText look b t lang, block) _ (drop i t) (ap (λ z. z .0) r) ∙ ap (λ z. (y, z .1)) r
 
   -- It ends at `)`, or at the end.
-  pub args-end : {g : ℕ} {m : Bool} → Spanning (either "," blank) t i g → Sees (but ")") t g m → not m ≡ true → Argued look b t i₀ (record { stalled = false; at = g; lang = lang; block = block })
+  pub args-end : {g : ℕ} {m : Bool} → Spanning (either "," blank) t i g → Sees (but ")") t g m → not m ≡ true → IsArguments look b t i₀ (record { stalled = false; at = g; lang = lang; block = block })
   args-end {g} G M e =
       let r = round-end look (valueText look b t lang, block) (gap-closed G M (not-true _ e)) (seen M (not-true _ e)) in
       record {
@@ -250,7 +250,7 @@ module _ {look : List ℕ → List ℕ} {b t : List ℕ} {i₀ i : ℕ} {lang : 
             let T = rw h at S in
             args-next (x .lies) (T .inside) (takes unset T ∙ rw (lt-leb e i (omega (arith, G .on, T .on))) refl)
 
-        pub args-stalled : e ≡ i → Argued look b t i₀ (record { stalled = true; at = g; lang = lang; block = block })
+        pub args-stalled : e ≡ i → IsArguments look b t i₀ (record { stalled = true; at = g; lang = lang; block = block })
         unfolding Sets unset
         args-stalled n =
             let T = rw h at S in

@@ -23,33 +23,33 @@ use Rattle.strings.specs.Paths.{PathIn}
 use Rattle.bundle.specs.declared.Opened.{Opened}
 use Rattle.bundle.specs.declared.Opened.the-variants.{Refused, Text}
 use Rattle.calls.specs.declared.values.Value.the-variants.{Reference, Expression, File}
-use Rattle.calls.specs.declared.content.Told.{Told}
-use Rattle.calls.specs.declared.content.Told.the-variants.{Given, HandedBack, Refused as Bad}
-use Rattle.calls.specs.declared.content.Content.{Content as Read}
+use Rattle.calls.specs.declared.content.CallContent.{CallContent}
+use Rattle.calls.specs.declared.content.CallContent.the-variants.{Given, HandedBack, Refused as Bad}
+use Rattle.calls.specs.declared.content.ContentRead.{ContentRead}
 use Rattle.calls.specs.Values.{valueText, Inside, Ends}
 
 -- What was opened, as a content.
-unfoldable pub FileIs : Opened → Told → Type 0
+unfoldable pub FileIs : Opened → CallContent → Type 0
 FileIs (Refused k) r = r ≡ Bad k
 FileIs (Text s n) r = r ≡ Given (File s (s + n))
 
 -- The rules' content of what is told.
-unfoldable pub toldContent : (List ℕ → List ℕ) → List ℕ → List ℕ → Told → Content
-toldContent look b t (Given v) = given (valueText look b t v)
-toldContent look b t HandedBack = handedBack
-toldContent look b t (Bad k) = noContent k
+unfoldable pub asContent : (List ℕ → List ℕ) → List ℕ → List ℕ → CallContent → Content
+asContent look b t (Given v) = given (valueText look b t v)
+asContent look b t HandedBack = handedBack
+asContent look b t (Bad k) = noContent k
 
-unfoldable pub ToldInside : List ℕ → List ℕ → Told → Type 0
-ToldInside b t (Given v) = Inside b t v
-ToldInside b t HandedBack = Unit {0}
-ToldInside b t (Bad k) = Unit {0}
+unfoldable pub ContentInside : List ℕ → List ℕ → CallContent → Type 0
+ContentInside b t (Given v) = Inside b t v
+ContentInside b t HandedBack = Unit {0}
+ContentInside b t (Bad k) = Unit {0}
 
 -- c: what the rules read, from i on.
-pub record Contents (c : Content × List ℕ) (look : List ℕ → List ℕ) (b t : List ℕ) (i : ℕ) (r : Read) : Type 0 where
+pub record Contents (c : Content × List ℕ) (look : List ℕ → List ℕ) (b t : List ℕ) (i : ℕ) (r : ContentRead) : Type 0 where
   pub on : i ≤ r .at
   pub inside : r .at ≤ length t
-  pub within : ToldInside b t (r .told)
-  pub says : c ≡ (toldContent look b t (r .told), drop (r .at) t)
+  pub within : ContentInside b t (r .content)
+  pub says : c ≡ (asContent look b t (r .content), drop (r .at) t)
 
 -- THE PATH OF A FILE. One leading `/`.
 slash-at : (x : ℕ) (xs : List ℕ) (c : Bool) → eqb 47 x ≡ c → withoutSlash (x ∷ xs) ≡ elim c [ true ↦ xs | false ↦ x ∷ xs ]
@@ -86,36 +86,36 @@ module _ (b : List ℕ) (v : View) {p path : List ℕ} {n : ℕ} (k : PathIn p p
     pub path-plain : c ≡ false → {r : Opened} → Opens b (opened v (take n path)) r → Opens b (opened v (withoutSlash p)) r
     path-plain e o = rw (k .fits h ∙ sym (slash-no p (rw (k .fits h, e) at (s .says)))) at o
 
-pub told-refused : {f : Opened} {k : ℕ} → f ≡ Refused k → FileIs f (Bad k)
+pub file-refused : {f : Opened} {k : ℕ} → f ≡ Refused k → FileIs f (Bad k)
 unfolding FileIs
-told-refused e = rw e refl
+file-refused e = rw e refl
 
-pub told-text : {f : Opened} {s n : ℕ} → f ≡ Text s n → FileIs f (Given (File s (s + n)))
+pub file-text : {f : Opened} {s n : ℕ} → f ≡ Text s n → FileIs f (Given (File s (s + n)))
 unfolding FileIs
-told-text e = rw e refl
+file-text e = rw e refl
 
-pub told-short : {f : Opened} {s n : ℕ} → f ≡ Text s n → stop f < 2 ^ 64 → s + n < 2 ^ 64
-told-short e h = rw e at h
+pub file-short : {f : Opened} {s n : ℕ} → f ≡ Text s n → stop f < 2 ^ 64 → s + n < 2 ^ 64
+file-short e h = rw e at h
 
-told-says : (look : List ℕ → List ℕ) (b t : List ℕ) {a : Answer (List ℕ)} (f : Opened) (r : Told) → Opens b a f → FileIs f r → (rawContent a ≡ toldContent look b t r) × ToldInside b t r
-unfolding FileIs rawContent toldContent ToldInside valueText Inside answerOf
-told-says look b t (Refused k) r o h = rw (h, o .says) (refl, tt)
-told-says look b t (Text s n) r o h = let z : s + n - s ≡ n = omega arith in rw (h, o .says) (rw z refl, (omega arith, o .inside))
+content-says : (look : List ℕ → List ℕ) (b t : List ℕ) {a : Answer (List ℕ)} (f : Opened) (r : CallContent) → Opens b a f → FileIs f r → (rawContent a ≡ asContent look b t r) × ContentInside b t r
+unfolding FileIs rawContent asContent ContentInside valueText Inside answerOf
+content-says look b t (Refused k) r o h = rw (h, o .says) (refl, tt)
+content-says look b t (Text s n) r o h = let z : s + n - s ≡ n = omega arith in rw (h, o .says) (rw z refl, (omega arith, o .inside))
 
 -- `read`, by what the scans gave.
 module _ (v : View) (look : List ℕ → List ℕ) {b t : List ℕ} {at i : ℕ} (l : Spans blank t at i) {c : Bool} (q : Sees (byteIs 40) t i c) where
-  pub read-back : c ≡ false → Contents (readCall v look (drop at t)) look b t at (record { told = HandedBack; at = i })
-  unfolding readCall toldContent ToldInside _>>=_ _>>_ ifR ret
+  pub read-back : c ≡ false → Contents (readCall v look (drop at t)) look b t at (record { content = HandedBack; at = i })
+  unfolding readCall asContent ContentInside _>>=_ _>>_ ifR ret
   read-back e = record { on = l .on; inside = l .inside; within = tt; says = rw (l .rest, sees-the "(" q e .says) refl }
 
   pub read-file : c ≡ true → {o path : List ℕ} {k n : ℕ} → Wrote 256 (expression look (take (length t - (i + 1)) (drop (i + 1) t))) (take (length t - (i + 1)) (drop (i + 1) t)) o 0 path k n →
-      {j m : ℕ} → Spans (but ")") t (i + 1 + k) j → Skips t j m → (f : Opened) {r : Told} → Opens b (opened v (withoutSlash (expression look (take (length t - (i + 1)) (drop (i + 1) t)) .0))) f → FileIs f r →
-      Contents (readCall v look (drop at t)) look b t at (record { told = r; at = m })
+      {j m : ℕ} → Spans (but ")") t (i + 1 + k) j → Skips t j m → (f : Opened) {r : CallContent} → Opens b (opened v (withoutSlash (expression look (take (length t - (i + 1)) (drop (i + 1) t)) .0))) f → FileIs f r →
+      Contents (readCall v look (drop at t)) look b t at (record { content = r; at = m })
   read-file e {o} {path} {k} {n} w {j} {m} x y f {r} p h = record {
     on = omega (arith, l .on, x .on, y .on);
     inside = y .inside;
-    within = told-says look b t f r p h .1;
-    says = reads ∙ ap (λ z. (z, drop m t)) (told-says look b t f r p h .0);
+    within = content-says look b t f r p h .1;
+    says = reads ∙ ap (λ z. (z, drop m t)) (content-says look b t f r p h .0);
   }
     where
       tail : take (length t - (i + 1)) (drop (i + 1) t) ≡ drop (i + 1) t
@@ -129,17 +129,17 @@ module _ (v : View) (look : List ℕ → List ℕ) {b t : List ℕ} {at i : ℕ}
 
 -- The content, by what the scans gave.
 module _ (v : View) (look : List ℕ → List ℕ) {b t : List ℕ} {i : ℕ} (z : i ≤ length t) {c : Bool} (q : Sees (byteIs 34) t i c) where
-  pub content-expression : c ≡ true → {k : ℕ} → Ends (expression look (take (length t - i) (drop i t))) (take (length t - i) (drop i t)) k → Contents (content v look (drop i t)) look b t i (record { told = Given (Expression i); at = i + k })
-  unfolding content toldContent ToldInside valueText Inside _>>=_ _>>_ ifR ret
+  pub content-expression : c ≡ true → {k : ℕ} → Ends (expression look (take (length t - i) (drop i t))) (take (length t - i) (drop i t)) k → Contents (content v look (drop i t)) look b t i (record { content = Given (Expression i); at = i + k })
+  unfolding content asContent ContentInside valueText Inside _>>=_ _>>_ ifR ret
   content-expression e {k} w =
       let u : Ends (expression look (drop i t)) (drop i t) k = rw tail-part at w in
       record { on = omega arith; inside = omega (arith, simp length-drop at (u .inside)); within = z; says = rw (sees-the "\"" q e .says, u .rest ∙ drop-drop k i t) refl }
 
   module _ (e : c ≡ false) {d : Bool} (m : Starts (bytes "read") t i d) where
-    pub content-read : d ≡ true → {r : Read} → Contents (readCall v look (drop (i + 4) t)) look b t (i + 4) r → Contents (content v look (drop i t)) look b t i r
+    pub content-read : d ≡ true → {r : ContentRead} → Contents (readCall v look (drop (i + 4) t)) look b t (i + 4) r → Contents (content v look (drop i t)) look b t i r
     unfolding content _>>=_ _>>_ ifR ret
     content-read h w = record { on = omega (arith, w .on); inside = w .inside; within = w .within; says = rw (sees-the "\"" q e .says, mark-yes m h) (w .says) }
 
-    pub content-reference : d ≡ false → {k : ℕ} → Spans runByte t i k → Contents (content v look (drop i t)) look b t i (record { told = Given (Reference i k); at = k })
-    unfolding content reference toldContent ToldInside valueText Inside _>>=_ _>>_ ifR ret
+    pub content-reference : d ≡ false → {k : ℕ} → Spans runByte t i k → Contents (content v look (drop i t)) look b t i (record { content = Given (Reference i k); at = k })
+    unfolding content reference asContent ContentInside valueText Inside _>>=_ _>>_ ifR ret
     content-reference h r = record { on = r .on; inside = r .inside; within = (r .on, r .inside); says = rw (sees-the "\"" q e .says, mark-no m h, r .took, r .rest) refl }

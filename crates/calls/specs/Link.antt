@@ -9,7 +9,7 @@ use lib.Seq.{sets, sets-eq, length-take-le, take-at, drop-at, drop-drop}
 use Rattle.rules.specs.Reader.{Reader, bytes, empty, same, ret, ifR, _>>=_, _>>_}
 use Rattle.rules.specs.Bytes.{blank, lineBlank}
 use Rattle.rules.specs.Strings.{expression}
-use Rattle.rules.specs.Expansion.{Call, outputs, linkText, linkBox, linkEnd, link}
+use Rattle.rules.specs.Expansion.{Call, outputs, linkText, linkContentBlock, linkEnd, link}
 use Rattle.scan.specs.Sets.{byteIs, notByte, part, Spans, Skips, Sees}
 use Rattle.scan.specs.Laws.{sees-the, skip-at}
 use Rattle.scan.specs.Paths.{drop-take, tail-part}
@@ -31,10 +31,10 @@ pub record Closes (e : List ℕ → Reader Call) (t : List ℕ) (i : ℕ) (r : E
   pub says : (u : List ℕ) → e u (drop i t) ≡ (outputs (r .whole) (linkText u (part t (r .from) (r .to))), drop (r .at) t)
 
 -- The link of an address and another text.
-abbrev pub boxed : List ℕ → List ℕ → List ℕ
-boxed u w = bytes "#link(\"" ++ (u ++ (bytes "\")[" ++ (w ++ bytes "]")))
+abbrev pub withContentBlock : List ℕ → List ℕ → List ℕ
+withContentBlock u w = bytes "#link(\"" ++ (u ++ (bytes "\")[" ++ (w ++ bytes "]")))
 
--- For each address u that was put at p of b and has made of it c: the call's text with w in its box fills b from p on, and has made of c d.
+-- For each address u that was put at p of b and has made of it c: the call's text with w in its content block fills b from p on, and has made of c d.
 abbrev pub Linked : List ℕ → ℕ → List ℕ → ℕ → List ℕ → ℕ → Type 0
 Linked w p c q d r = (b u : List ℕ) → p ≤ length b → Put (length b) b p u c q → Fills (length b) b p (linkText u w) d r
 
@@ -45,9 +45,9 @@ no-text u t i = let z : i - i ≡ 0 = omega arith in rw z refl
 
 -- THE BOX, behind the `)` at i and line blanks up to k.
 module _ {t : List ℕ} {i k : ℕ} (h : i < length t) (L : Spans lineBlank t (i + 1) k) {c : Bool} (s : Sees (byteIs 91) t k c) where
-  pub box-none : c ≡ false → Closes linkBox t i (record { whole = true; at = k; from = k; to = k })
-  unfolding linkBox _>>=_ _>>_ ifR ret
-  box-none e = record {
+  pub block-none : c ≡ false → Closes linkContentBlock t i (record { whole = true; at = k; from = k; to = k })
+  unfolding linkContentBlock _>>=_ _>>_ ifR ret
+  block-none e = record {
     on = omega (arith, L .on);
     inside = L .inside;
     order = omega arith;
@@ -55,9 +55,9 @@ module _ {t : List ℕ} {i k : ℕ} (h : i < length t) (L : Spans lineBlank t (i
     says = λ u. rw (skip-at t i h, L .rest, sees-the "[" s e .says, no-text u t k) refl;
   }
 
-  pub box-text : c ≡ true → {j n : ℕ} {w : Bool} → Spans (notByte 93) t (k + 1) j → Sees (byteIs 93) t j w → Skips t j n → Closes linkBox t i (record { whole = w; at = n; from = k + 1; to = j })
-  unfolding linkBox _>>=_ _>>_ ifR ret
-  box-text e J W N =
+  pub block-text : c ≡ true → {j n : ℕ} {w : Bool} → Spans (notByte 93) t (k + 1) j → Sees (byteIs 93) t j w → Skips t j n → Closes linkContentBlock t i (record { whole = w; at = n; from = k + 1; to = j })
+  unfolding linkContentBlock _>>=_ _>>_ ifR ret
+  block-text e J W N =
       let M = spans-but "]" J in
       record {
         on = omega (arith, L .on, M .on, N .on);
@@ -69,9 +69,9 @@ module _ {t : List ℕ} {i k : ℕ} (h : i < length t) (L : Spans lineBlank t (i
 
 -- THE END, behind blanks up to k.
 module _ {t : List ℕ} {i k : ℕ} (L : Spans blank t i k) {c : Bool} (s : Sees (byteIs 41) t k c) where
-  pub end-box : c ≡ true → {r : Ending} → Closes linkBox t k r → Closes linkEnd t i r
+  pub end-block : c ≡ true → {r : Ending} → Closes linkContentBlock t k r → Closes linkEnd t i r
   unfolding linkEnd _>>=_ _>>_ ifR
-  end-box e b = record {
+  end-block e b = record {
     on = omega (arith, L .on, b .on);
     inside = b .inside;
     order = b .order;
@@ -100,14 +100,14 @@ put-moved {c} {d} {e} {p} {q} h k m s =
       place = let z : p + length (bytes "#link(\"" ++ part c p q) ≡ q + 7 = omega arith in sym (after-fits (length c) p (bytes "#link(\"" ++ part c p q) (omega arith) ∙ z);
     }
 
-pub put-boxed : {c d e : List ℕ} {p q : ℕ} → p ≤ q → q + 7 ≤ length c → d ≡ sets c (p + 7) (drop p (take q c)) → e ≡ sets d p (bytes "#link(\"") →
-    {f g i w : List ℕ} {x y r : ℕ} → Put (length c) e (q + 7) (bytes "\")[") f x → Put (length c) f x w g y → Put (length c) g y (bytes "]") i r → Put (length c) c p (boxed (part c p q) w) i r
-put-boxed {c} {d} {e} {p} {q} h k m s {f} A B C =
+pub put-with-block : {c d e : List ℕ} {p q : ℕ} → p ≤ q → q + 7 ≤ length c → d ≡ sets c (p + 7) (drop p (take q c)) → e ≡ sets d p (bytes "#link(\"") →
+    {f g i w : List ℕ} {x y r : ℕ} → Put (length c) e (q + 7) (bytes "\")[") f x → Put (length c) f x w g y → Put (length c) g y (bytes "]") i r → Put (length c) c p (withContentBlock (part c p q) w) i r
+put-with-block {c} {d} {e} {p} {q} h k m s {f} A B C =
     let M = put-moved h k m s in
     let a = put-ended A (omega arith) in
     put-then M (omega arith) (omega arith) (put-then A (omega (arith, put-length M)) (omega arith) (put-then B (omega (arith, put-length M, put-length A)) (a .0) C))
 
--- The call's text, by whether the box's text is the address.
+-- The call's text, by whether the content block's text is the address.
 text-empty : (u w : List ℕ) → length w ≡ 0 → linkText u w ≡ u
 unfolding linkText empty
 text-empty u [] h = refl
@@ -118,7 +118,7 @@ unfolding linkText empty
 text-same u [] h = refl
 text-same u (x ∷ xs) h = rw (h, linkText) refl
 
-text-other : (u w : List ℕ) → (length w ≡ 0 → ⊥) → same w u ≡ false → linkText u w ≡ boxed u w
+text-other : (u w : List ℕ) → (length w ≡ 0 → ⊥) → same w u ≡ false → linkText u w ≡ withContentBlock u w
 unfolding linkText empty
 text-other u [] n h = absurd (n refl)
 text-other u (x ∷ xs) n h = rw (h, linkText) refl
@@ -164,7 +164,7 @@ module _ (w : List ℕ) (p : ℕ) (c : List ℕ) (q : ℕ) where
         rw (text-same u w z) (put-fills (omega arith) P)
 
     module _ (n : length w ≡ 0 → ⊥) (e : s ≡ false) where
-      other : {b u : List ℕ} → p ≤ length b → Put (length b) b p u c q → linkText u w ≡ boxed u w
+      other : {b u : List ℕ} → p ≤ length b → Put (length b) b p u c q → linkText u w ≡ withContentBlock u w
       other {b} {u} h P = text-other u w n (ap (same w) (sym (address h P k)) ∙ sym S ∙ e)
 
       pub linked-short : length c - q < 7 → Linked w p c q c (length c + 2)
@@ -177,8 +177,8 @@ module _ (w : List ℕ) (p : ℕ) (c : List ℕ) (q : ℕ) where
             over = λ z. omega (arith, ap length (other h P), length-append u (bytes "\")[" ++ (w ++ bytes "]")), put-fits P (omega arith) (omega arith));
           }
 
-      pub linked-boxed : {d : List ℕ} {r : ℕ} → Put (length c) c p (boxed (part c p q) w) d r → Linked w p c q d r
-      linked-boxed {d} {r} D b u h P =
+      pub linked-with-block : {d : List ℕ} {r : ℕ} → Put (length c) c p (withContentBlock (part c p q) w) d r → Linked w p c q d r
+      linked-with-block {d} {r} D b u h P =
           let l = put-length P in
           let E : Put (length b) c p (linkText u w) d r = rw (l, address h P k, sym (other h P)) at D in
           let F = put-fills (omega arith) E in

@@ -15,7 +15,7 @@ use Rattle.rules.specs.Laws.Bool.{and-l, and-r, and-i}
 use Rattle.scan.specs.Sets.{Spans, Sees, Skips, byteIs}
 use Rattle.scan.specs.Laws.{not-empty}
 use Rattle.scan.specs.Paths.{TrimsEnd, trimEnd-cons}
-use Rattle.buffers.specs.Put.{spill, after, Put, Writer}
+use Rattle.buffers.specs.Put.{overflow, after, Put, Writer}
 use Rattle.buffers.specs.Laws.{after-split, put-length, put-fits, put-not, put-then, put-writer, put-ended, sets-append, take-sets, sets-clipped}
 use Rattle.buffers.specs.Emits.{Fill, Fills, put-fill, put-fills, fill-then}
 use Rattle.calls.specs.declared.Outcome.{Outcome}
@@ -23,13 +23,13 @@ use Rattle.calls.specs.declared.Outcome.the-variants.{HandedBack as Back
 use Rattle.calls.specs.declared.Called.{Called}
 use Rattle.calls.specs.declared.args.Args.{Args}
 use Rattle.calls.specs.declared.values.Value.{Value}
-use Rattle.calls.specs.declared.content.Told.{Told}
-use Rattle.calls.specs.declared.content.Told.the-variants.{Given, HandedBack, Refused as Bad}
-use Rattle.calls.specs.declared.content.Content.{Content as Read}
+use Rattle.calls.specs.declared.content.CallContent.{CallContent}
+use Rattle.calls.specs.declared.content.CallContent.the-variants.{Given, HandedBack, Refused as Bad}
+use Rattle.calls.specs.declared.content.ContentRead.{ContentRead}
 use Rattle.calls.specs.Called.{Says, Calls}
 use Rattle.calls.specs.Values.{valueText, Inside}
-use Rattle.calls.specs.Args.{Argued}
-use Rattle.calls.specs.Content.{toldContent, ToldInside, Contents}
+use Rattle.calls.specs.Args.{IsArguments}
+use Rattle.calls.specs.Content.{asContent, ContentInside, Contents}
 
 -- TRIMMING. Blanks behind a text are trimmed with it; behind anything else the text before stays whole.
 trim-blank : (b : List ℕ) → all blank b ≡ true → trimEnd b ≡ []
@@ -98,24 +98,24 @@ module _ {room : ℕ} {o : List ℕ} {p : ℕ} {v c : List ℕ} {q : ℕ} (l : l
     first-part : sets o p (take (room - p) v) ≡ c
     first-part = sets-clipped o p v (room - p) (omega arith) (omega (arith, lost)) ∙ sym (s .stored)
 
-    spilt : q ≡ spill room (all blank (drop (room - p) v))
+    spilt : q ≡ overflow room (all blank (drop (room - p) v))
     spilt = s .place ∙ after-split room p v h lost
 
     all-blank : q ≡ room + 1 → all blank (drop (room - p) v) ≡ true
-    unfolding spill
+    unfolding overflow
     all-blank e = at (all blank (drop (room - p) v)) refl
       where
         at : (b : Bool) → all blank (drop (room - p) v) ≡ b → all blank (drop (room - p) v) ≡ true
         at true z = z
-        at false z = let y : q ≡ room + 2 = spilt ∙ ap (spill room) z in absurd (omega arith)
+        at false z = let y : q ≡ room + 2 = spilt ∙ ap (overflow room) z in absurd (omega arith)
 
     not-blank : (q ≡ room + 1 → ⊥) → all blank (drop (room - p) v) ≡ false
-    unfolding spill
+    unfolding overflow
     not-blank e = at (all blank (drop (room - p) v)) refl
       where
         at : (b : Bool) → all blank (drop (room - p) v) ≡ b → all blank (drop (room - p) v) ≡ false
         at false z = z
-        at true z = absurd (e (spilt ∙ ap (spill room) z))
+        at true z = absurd (e (spilt ∙ ap (overflow room) z))
 
     -- Blanks alone found no room.
     pub trimmed-soft : q ≡ room + 1 → {n : ℕ} → TrimsEnd (take (room - p) (drop p c)) n → Fills room o p (trimEnd v) c (p + n)
@@ -191,27 +191,27 @@ module _ {room : ℕ} {o : List ℕ} {p : ℕ} (l : length o ≡ room) (h : p �
         past z (yes y) = omega (arith, long, put-fits head (omega arith) k, t .fills y .place, put-not u (t .bound) z)
         past z (no y) = omega (arith, long, put-fits head (omega arith) k, t .over (omega arith))
 
-pub content-inside : {x : Content × List ℕ} {look : List ℕ → List ℕ} (b t : List ℕ) {i : ℕ} {c : Read} {w : Value} → Contents x look b t i c → c .told ≡ Given w → Inside b t w
-unfolding ToldInside
+pub content-inside : {x : Content × List ℕ} {look : List ℕ → List ℕ} (b t : List ℕ) {i : ℕ} {c : ContentRead} {w : Value} → Contents x look b t i c → c .content ≡ Given w → Inside b t w
+unfolding ContentInside
 content-inside b t m e = rw e at (m .within)
 
 -- THE CALL, by what was read.
-module _ (v : View) (look : List ℕ → List ℕ) {b t : List ℕ} {at i : ℕ} (l : Spans blank t at i) {c : Read} (m : Contents (content v look (drop i t)) look b t i c) {o : List ℕ} {p : ℕ} where
-  pub raw-back : c .told ≡ HandedBack → Calls (raw v look (drop at t)) t at o p o (record { outcome = Back; at = c .at })
-  unfolding raw rawArguments toldContent Says _>>=_ _>>_ ret
+module _ (v : View) (look : List ℕ → List ℕ) {b t : List ℕ} {at i : ℕ} (l : Spans blank t at i) {c : ContentRead} (m : Contents (content v look (drop i t)) look b t i c) {o : List ℕ} {p : ℕ} where
+  pub raw-back : c .content ≡ HandedBack → Calls (raw v look (drop at t)) t at o p o (record { outcome = Back; at = c .at })
+  unfolding raw rawArguments asContent Says _>>=_ _>>_ ret
   raw-back e = record { on = omega (arith, l .on, m .on); inside = m .inside; size = refl; says = (rw (l .rest, m .says, e) refl, refl) }
 
-  pub raw-refused : {k : ℕ} → c .told ≡ Bad k → Calls (raw v look (drop at t)) t at o p o (record { outcome = No k; at = c .at })
-  unfolding raw rawArguments toldContent Says _>>=_ _>>_ ret
+  pub raw-refused : {k : ℕ} → c .content ≡ Bad k → Calls (raw v look (drop at t)) t at o p o (record { outcome = No k; at = c .at })
+  unfolding raw rawArguments asContent Says _>>=_ _>>_ ret
   raw-refused e = record { on = omega (arith, l .on, m .on); inside = m .inside; size = refl; says = rw (l .rest, m .says, e) refl }
 
-  module _ {w : Value} (e : c .told ≡ Given w) {g : Args} (a : Argued look b t (c .at) g) where
+  module _ {w : Value} (e : c .content ≡ Given w) {g : Args} (a : IsArguments look b t (c .at) g) where
     pub raw-stalled : g .stalled ≡ true → Calls (raw v look (drop at t)) t at o p o (record { outcome = No 8; at = g .at })
-    unfolding raw rawArguments rawEnd toldContent Says _>>=_ _>>_ ret
+    unfolding raw rawArguments rawEnd asContent Says _>>=_ _>>_ ret
     raw-stalled h = record { on = omega (arith, l .on, m .on, a .on); inside = a .inside; size = refl; says = rw (l .rest, m .says, e, a .stalls h) refl }
 
     pub raw-output : g .stalled ≡ false → {y : Bool} {j : ℕ} → Sees (byteIs 41) t (g .at) y → Skips t (g .at) j → {z : List ℕ} {q : ℕ} → Fills (length o) o p (rawText (valueText look b t w) (valueText look b t (g .lang)) (g .block)) z q → Calls (raw v look (drop at t)) t at o p z (record { outcome = Out y q; at = j })
-    unfolding raw rawArguments rawEnd toldContent Says the _>>=_ _>>_ ret
+    unfolding raw rawArguments rawEnd asContent Says the _>>=_ _>>_ ret
     raw-output h s k f = record {
       on = omega (arith, l .on, m .on, a .on, k .on);
       inside = k .inside;

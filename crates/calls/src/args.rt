@@ -3,7 +3,7 @@ ghost use mathlib.Core.Path.{_≡_};
 ghost use mathlib.Core.List.{List};
 ghost use Prim.Native.Nat.{ℕ, _≤_};
 ghost use lib.ListN.{length};
-ghost use Rattle.calls.specs.Args.{Speaks, Sets, Argued};
+ghost use Rattle.calls.specs.Args.{IsLanguage, Sets, IsArguments};
 use crate::values::Value;
 use crate::values::literal_end;
 
@@ -16,7 +16,7 @@ pub struct Lang {
 // What `lang` takes: a literal at `"`, else a reference.
 fn language(text: &[u8], at: usize) -> Lang
     requires { ⌜ at ≤ length (now text) ⌝ }
-    ensures { λ r. ⌜ ((look : List ℕ → List ℕ) (b : List ℕ) → Speaks look b (now (text .entry)) at r) ⌝ }
+    ensures { λ r. ⌜ ((look : List ℕ → List ℕ) (b : List ℕ) → IsLanguage look b (now (text .entry)) at r) ⌝ }
 {
     if scan::at(text, at, b'"') {
         let used = literal_end(&text[at + 1..]);
@@ -71,7 +71,7 @@ pub struct Args {
 // later argument replaces an earlier one.
 pub fn arguments(text: &[u8], at: usize) -> Args
     requires { ⌜ at ≤ length (now text) ⌝ }
-    ensures { λ r. ⌜ ((look : List ℕ → List ℕ) (b : List ℕ) → Argued look b (now (text .entry)) at r) ⌝ }
+    ensures { λ r. ⌜ ((look : List ℕ → List ℕ) (b : List ℕ) → IsArguments look b (now (text .entry)) at r) ⌝ }
 {
     let mut i = at;
     let mut lang = Value::Empty;

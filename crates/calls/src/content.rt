@@ -20,15 +20,15 @@ ghost use Rattle.strings.specs.Paths.{PathIn};
 ghost use Rattle.calls.specs.Content.{FileIs, Contents};
 
 // What a call's content is: a value, handed back, or refused.
-pub enum Told {
+pub enum CallContent {
     Given(Value),
     HandedBack,
     Refused(u8),
 }
 
 // The content, and where reading goes on.
-pub struct Content {
-    pub told: Told,
+pub struct ContentRead {
+    pub content: CallContent,
     pub at: usize,
 }
 
@@ -47,13 +47,13 @@ fn open_path(b: &[u8], path: [u8; 256], n: usize) -> Opened
 }
 
 // What was opened, as a content.
-fn file_told(f: Opened) -> Told
+fn file_content(f: Opened) -> CallContent
     requires { ⌜ stop f < 2 ^ 64 ⌝ }
     ensures { λ r. ⌜ FileIs f r ⌝ }
 {
     match f {
-        Opened::Refused(k) => Told::Refused(k),
-        Opened::Text { start, len } => Told::Given(Value::File {
+        Opened::Refused(k) => CallContent::Refused(k),
+        Opened::Text { start, len } => CallContent::Given(Value::File {
             from: start,
             to: start + len,
         }),
@@ -61,14 +61,14 @@ fn file_told(f: Opened) -> Told
 }
 
 // `read`, from behind it.
-fn read_call(b: &[u8], text: &[u8], at: usize, sheet: &[u8]) -> Content
+fn read_call(b: &[u8], text: &[u8], at: usize, sheet: &[u8]) -> ContentRead
     requires { ⌜ (isSome (bundleOf (now b)) ≡ true) × (at ≤ length (now text)) × IsSheet (now sheet) ⌝ }
     ensures { λ r. ⌜ ((s : IsSheet (now (sheet .entry))) → Contents (readCall (view (entriesOf (now (b .entry)))) (resolveString (s .r)) (drop at (now (text .entry)))) (resolveString (s .r)) (now (b .entry)) (now (text .entry)) at r) ⌝ }
 {
     let i = scan::span(text, at, Set::Blank);
     if !scan::at(text, i, b'(') {
-        return Content {
-            told: Told::HandedBack,
+        return ContentRead {
+            content: CallContent::HandedBack,
             at: i,
         };
     }
@@ -76,19 +76,22 @@ fn read_call(b: &[u8], text: &[u8], at: usize, sheet: &[u8]) -> Content
     let r = strings::expression(&text[i + 1..], sheet, &mut path, 256, 0);
     let j = scan::find(text, i + 1 + r.used, b')');
     let next = scan::skip(text, j);
-    let f = file_told(open_path(b, path, r.next));
-    Content { told: f, at: next }
+    let f = file_content(open_path(b, path, r.next));
+    ContentRead {
+        content: f,
+        at: next,
+    }
 }
 
 // A raw call's content, from behind its `(` and the blanks there.
-pub fn raw_content(b: &[u8], text: &[u8], at: usize, sheet: &[u8]) -> Content
+pub fn raw_content(b: &[u8], text: &[u8], at: usize, sheet: &[u8]) -> ContentRead
     requires { ⌜ (isSome (bundleOf (now b)) ≡ true) × (at ≤ length (now text)) × IsSheet (now sheet) ⌝ }
     ensures { λ r. ⌜ ((s : IsSheet (now (sheet .entry))) → Contents (content (view (entriesOf (now (b .entry)))) (resolveString (s .r)) (drop at (now (text .entry)))) (resolveString (s .r)) (now (b .entry)) (now (text .entry)) at r) ⌝ }
 {
     if scan::at(text, at, b'"') {
         let k = expression_end(&text[at..]);
-        return Content {
-            told: Told::Given(Value::Expression { from: at }),
+        return ContentRead {
+            content: CallContent::Given(Value::Expression { from: at }),
             at: at + k,
         };
     }
@@ -96,8 +99,8 @@ pub fn raw_content(b: &[u8], text: &[u8], at: usize, sheet: &[u8]) -> Content
         return read_call(b, text, at + 4, sheet);
     }
     let e = scan::span(text, at, Set::Run);
-    Content {
-        told: Told::Given(Value::Reference { from: at, to: e }),
+    ContentRead {
+        content: CallContent::Given(Value::Reference { from: at, to: e }),
         at: e,
     }
 }

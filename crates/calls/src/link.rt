@@ -1,18 +1,18 @@
-// The link call: an address, and a text in a box behind it.
+// The link call: an address, and a text in a content block behind it.
 use crate::Called;
 use crate::Outcome;
 use scan::Set;
 ghost use Prim.Native.Nat.{_+_, _≤_, _<_};
 ghost use lib.ListN.{length, drop};
 ghost use Rattle.rules.specs.Sheet.{resolveString};
-ghost use Rattle.rules.specs.Expansion.{linkBox, linkEnd, link};
+ghost use Rattle.rules.specs.Expansion.{linkContentBlock, linkEnd, link};
 ghost use Rattle.sheet.specs.Find.{IsSheet};
 ghost use Rattle.buffers.specs.Put.{Put};
 ghost use Rattle.scan.specs.Sets.{part};
 ghost use Rattle.calls.specs.Called.{Calls};
-ghost use Rattle.calls.specs.Link.{Closes, boxed, Linked};
+ghost use Rattle.calls.specs.Link.{Closes, withContentBlock, Linked};
 
-// How a call ends: on its own `)` or `]`; where reading goes on; where the text of its box begins and ends. Without a box the text
+// How a call ends: on its own `)` or `]`; where reading goes on; where the text of its content block begins and ends. Without one the text
 // is empty.
 pub struct Ending {
     pub whole: bool,
@@ -21,10 +21,10 @@ pub struct Ending {
     pub to: usize,
 }
 
-// The box behind a `)`.
-fn box_end(text: &[u8], at: usize) -> Ending
+// The content block behind a `)`.
+fn content_block_end(text: &[u8], at: usize) -> Ending
     requires { ⌜ at < length (now text) ⌝ }
-    ensures { λ r. ⌜ Closes linkBox (now (text .entry)) at r ⌝ }
+    ensures { λ r. ⌜ Closes linkContentBlock (now (text .entry)) at r ⌝ }
 {
     let i = scan::span(text, at + 1, Set::LineBlank);
     if !scan::at(text, i, b'[') {
@@ -53,7 +53,7 @@ fn call_end(text: &[u8], at: usize) -> Ending
 {
     let i = scan::span(text, at, Set::Blank);
     if scan::at(text, i, b')') {
-        return box_end(text, i);
+        return content_block_end(text, i);
     }
     let j = scan::find(text, i, b')');
     let whole = scan::at(text, j, b')');
@@ -67,9 +67,9 @@ fn call_end(text: &[u8], at: usize) -> Ending
 }
 
 // Puts the link of an address that stands in the buffer from p to q: the address is moved up by what stands before it.
-fn put_box(text: &[u8], out: &mut [u8], p: usize, q: usize) -> usize
+fn put_content_block(text: &[u8], out: &mut [u8], p: usize, q: usize) -> usize
     requires { ⌜ (p ≤ q) × (q + 7 ≤ length (now out)) ⌝ }
-    ensures { λ r. ⌜ Put (length (now (out .entry))) (now (out .entry)) p (boxed (part (now (out .entry)) p q) (now (text .entry))) (now (out .exit)) r ⌝ }
+    ensures { λ r. ⌜ Put (length (now (out .entry))) (now (out .entry)) p (withContentBlock (part (now (out .entry)) p q) (now (text .entry))) (now (out .exit)) r ⌝ }
 {
     let room = out.len();
     buffers::move_up(out, p, q, 7);
@@ -79,7 +79,7 @@ fn put_box(text: &[u8], out: &mut [u8], p: usize, q: usize) -> usize
     buffers::put(out, room, b, b"]")
 }
 
-// Puts a call's text over its address, which was put at p: alone where the text of the box is empty or the same.
+// Puts a call's text over its address, which was put at p: alone where the text of the content block is empty or the same.
 fn put_link(text: &[u8], out: &mut [u8], p: usize, q: usize) -> usize
     requires { ⌜ (p ≤ q) × (q ≤ length (now out) + 2) ⌝ }
     ensures { λ r. ⌜ Linked (now (text .entry)) p (now (out .entry)) q (now (out .exit)) r ⌝ }
@@ -97,7 +97,7 @@ fn put_link(text: &[u8], out: &mut [u8], p: usize, q: usize) -> usize
     if room - q < 7 {
         return room + 2;
     }
-    put_box(text, out, p, q)
+    put_content_block(text, out, p, q)
 }
 
 // Reads a link call from behind its `(`, and puts its text. At `<` it is handed back.

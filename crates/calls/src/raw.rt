@@ -2,7 +2,7 @@
 use crate::Called;
 use crate::Outcome;
 use crate::args::arguments;
-use crate::content::Told;
+use crate::content::CallContent;
 use crate::content::raw_content;
 use crate::values::Value;
 use crate::values::put_value;
@@ -77,17 +77,17 @@ pub fn raw(b: &[u8], text: &[u8], at: usize, sheet: &[u8], out: &mut [u8], p: us
 {
     let i = scan::span(text, at, Set::Blank);
     let c = raw_content(b, text, i, sheet);
-    let told = c.told;
-    match told {
-        Told::HandedBack => Called {
+    let content = c.content;
+    match content {
+        CallContent::HandedBack => Called {
             outcome: Outcome::HandedBack,
             at: c.at,
         },
-        Told::Refused(number) => Called {
+        CallContent::Refused(number) => Called {
             outcome: Outcome::Refused { number: number },
             at: c.at,
         },
-        Told::Given(value) => {
+        CallContent::Given(value) => {
             let g = arguments(text, c.at);
             if g.stalled {
                 return Called {

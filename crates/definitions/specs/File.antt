@@ -31,7 +31,7 @@ use Rattle.sheet.specs.Use.{Holds, holds-sheet, Keeps, keeps-holds}
 use Rattle.sheet.specs.declared.bind.Bound.{Bound}
 use Rattle.sheet.specs.declared.bind.Bound.the-variants.{Over, Length}
 use Rattle.values.specs.Values.{slots, Room, room-two, room-behind, lent, lent-size, lent-first}
-use Rattle.definitions.specs.Names.{Ready, Came, BindsNames}
+use Rattle.definitions.specs.Names.{Ready, IsBound, BindsNames}
 use Rattle.definitions.specs.Steps.{Comes, DefinesLet, within}
 use Rattle.definitions.specs.Import.{comesTo, ImportsAt}
 use Rattle.definitions.specs.declared.steps.Stepped.{Stepped}
@@ -68,7 +68,7 @@ pub record Swap (l : List ℕ) (m : ℕ) (w : List ℕ) (n limit : ℕ) : Type 0
 -- The names of the sheet in l are bound in the one that is saved in w; c holds what that comes to.
 pub record BindsImported (limit : ℕ) (ns : Names) (l : List ℕ) (m : ℕ) (w : List ℕ) (n : ℕ) (c : List ℕ) (o : Bound) : Type 0 where
   pub size : length c ≡ length l
-  pub binds : (s r : Records) → Holds s w n limit → Holds r l m limit → Came limit (bindNames limit s r ns) c o
+  pub binds : (s r : Records) → Holds s w n limit → Holds r l m limit → IsBound limit (bindNames limit s r ns) c o
 
 -- The sheet of a file, or its refusal. The buffers l and w become c and o, and c holds the sheet.
 pub record Parses (limit : ℕ) (a : Answer Records) (l c w o : List ℕ) (r : Parsed) : Type 0 where
@@ -105,7 +105,7 @@ module _ {limit : ℕ} {d : Did Records × List ℕ} {t : List ℕ} {s : Records
     stops = λ z. ap (λ q. guard sheetLength limit (q .0)) e ∙ within (bound s (refused k)) refl h;
   }
 
-  comes-bound : {a : Answer Records} {c : List ℕ} (o : Bound) → d ≡ (bound s a, drop at t) → Came limit a c o → Comes limit d t c (boundStep o at n)
+  comes-bound : {a : Answer Records} {c : List ℕ} (o : Bound) → d ≡ (bound s a, drop at t) → IsBound limit a c o → Comes limit d t c (boundStep o at n)
   unfolding boundStep bound
   comes-bound Over e w = comes-refused (e ∙ ap (λ x. (bound s x, drop at t)) (w .over refl))
   comes-bound {c = c} (Length len) e w =
@@ -195,7 +195,7 @@ module _ (limit levels : ℕ) (v : View) (b g : List ℕ) {t : List ℕ} {at : �
 
     -- The names are bound in the sheet that was saved in w.
     module _ (f : r .ok ≡ true) {w : List ℕ} {c₂ : List ℕ} {d : Bound} (j : take n w ≡ take n l) (B : BindsImported limit (names (drop (m .names) t) .0) c (r .len) w n c₂ d) where
-      came : {s : Records} → Holds s l n limit → Came limit (bindNames limit s (Z .goes f .0) (names (drop (m .names) t) .0)) c₂ d
+      came : {s : Records} → Holds s l n limit → IsBound limit (bindNames limit s (Z .goes f .0) (names (drop (m .names) t) .0)) c₂ d
       came {s} h = B .binds s (Z .goes f .0) (record { bytes = j ∙ h .bytes; long = h .long; fits = h .fits; good = h .good }) (Z .goes f .2)
 
       bound-at : (d : Bound) → boundStep d (m .next) n .at ≡ m .next
@@ -203,7 +203,7 @@ module _ (limit levels : ℕ) (v : View) (b g : List ℕ) {t : List ℕ} {at : �
       bound-at Over = refl
       bound-at (Length k) = refl
 
-      bound-mark : (d : Bound) {a : Answer Records} → Came limit a c₂ d → boundStep d (m .next) n .ok ≡ true → Mark (take (boundStep d (m .next) n .len) c₂) (boundStep d (m .next) n .last)
+      bound-mark : (d : Bound) {a : Answer Records} → IsBound limit a c₂ d → boundStep d (m .next) n .ok ≡ true → Mark (take (boundStep d (m .next) n .len) c₂) (boundStep d (m .next) n .last)
       unfolding boundStep
       bound-mark Over h z = absurd (true≢false (sym z))
       bound-mark (Length k) h z = mark-start (holds-sheet (h .bound k refl .2))

@@ -18,8 +18,8 @@ use Rattle.rules.specs.Laws.Answer.{bind-accepted}
 use Rattle.rules.specs.Laws.Sheet.{good-parts, get-good, set-good}
 use Rattle.rules.specs.Laws.Definitions.{get-name}
 use Rattle.sheet.specs.Parts.{Part, slice, part-slice}
-use Rattle.sheet.specs.Items.{At, Told, Holding, inner}
-use Rattle.sheet.specs.Order.{asked}
+use Rattle.sheet.specs.Items.{At, IsItem, Holding, inner}
+use Rattle.sheet.specs.Order.{underscoredIf}
 use Rattle.sheet.specs.Find.{IsSheet, Level, Gives, Body, item-body, item-holding, item-rest}
 use Rattle.sheet.specs.Write.{Bindable, BindsTo, IsThere}
 use Rattle.sheet.specs.Use.{Holds, holds-sheet, found-there, to-bind, bound-bytes, over-long}
@@ -38,14 +38,14 @@ pub record Ready (z b : List ℕ) (n limit : ℕ) : Type 0 where
   pub from : IsSheet z
 
 -- What the answer a came to: refused with 9, or c holds its records.
-pub record Came (limit : ℕ) (a : Answer Records) (c : List ℕ) (o : Bound) : Type 0 where
+pub record IsBound (limit : ℕ) (a : Answer Records) (c : List ℕ) (o : Bound) : Type 0 where
   pub over : o ≡ Over → a ≡ refused 9
   pub bound : (m : ℕ) → o ≡ Length m → (s : Records) × (a ≡ accepted s) × Holds s c m limit
 
 -- The names that the sheet z has are bound in the sheet in the first n bytes of b.
 pub record BindsNames (names : Names) (z b : List ℕ) (n limit : ℕ) (c : List ℕ) (o : Bound) : Type 0 where
   pub size : length c ≡ length b
-  pub binds : (s : IsSheet (take n b)) (r : IsSheet z) → Came limit (bindNames limit (s .r) (r .r) names) c o
+  pub binds : (s : IsSheet (take n b)) (r : IsSheet z) → IsBound limit (bindNames limit (s .r) (r .r) names) c o
 
 -- LAWS. What the first bytes hold.
 pub holds-bindable : {s : Records} {c : List ℕ} {n limit : ℕ} → Holds s c n limit → limit ≤ length c → limit ≤ 65535 → Bindable c n limit
@@ -67,21 +67,21 @@ not-length h = let z : _≡_ {A = ℕ} 0 1 = cc in omega arith
 same-length : {m k : ℕ} → _≡_ {A = Bound} (Length m) (Length k) → m ≡ k
 same-length h = cc
 
-pub came-over : {limit : ℕ} {a : Answer Records} {c : List ℕ} → a ≡ refused 9 → Came limit a c Over
-came-over e = record { over = λ h. e; bound = λ m h. absurd (not-length h) }
+pub is-bound-over : {limit : ℕ} {a : Answer Records} {c : List ℕ} → a ≡ refused 9 → IsBound limit a c Over
+is-bound-over e = record { over = λ h. e; bound = λ m h. absurd (not-length h) }
 
-pub came-length : {limit : ℕ} {a : Answer Records} {c : List ℕ} {m : ℕ} (s : Records) → a ≡ accepted s → Holds s c m limit → Came limit a c (Length m)
-came-length s e h = record { over = λ q. absurd (not-length (sym q)); bound = λ k q. (s, e, rw (same-length q) at h) }
+pub is-bound-length : {limit : ℕ} {a : Answer Records} {c : List ℕ} {m : ℕ} (s : Records) → a ≡ accepted s → Holds s c m limit → IsBound limit a c (Length m)
+is-bound-length s e h = record { over = λ q. absurd (not-length (sym q)); bound = λ k q. (s, e, rw (same-length q) at h) }
 
 -- One binding.
 pub came-one : {b : List ℕ} {n limit : ℕ} {name : List ℕ} {v : Value} {c : List ℕ} {s : Records} (o : Bound) →
-    Holds s b n limit → all word name ≡ true → goodValue v 6 ≡ true → BindsTo b n limit name v c o → Came limit (bindOne limit s name v) c o
+    Holds s b n limit → all word name ≡ true → goodValue v 6 ≡ true → BindsTo b n limit name v c o → IsBound limit (bindOne limit s name v) c o
 unfolding bindOne check _>>_
-came-one {limit = limit} {name = name} {v = v} {s = s} Over h a g w = came-over (rw (lt-leb (sheetLength (set s name v)) limit (over-long s (h .bytes) w)) refl)
+came-one {limit = limit} {name = name} {v = v} {s = s} Over h a g w = is-bound-over (rw (lt-leb (sheetLength (set s name v)) limit (over-long s (h .bytes) w)) refl)
 came-one {limit = limit} {name = name} {v = v} {s = s} (Length m) h a g w =
     let y = bound-bytes s (h .bytes) w in
     let l : sheetLength (set s name v) ≤ limit = omega (arith, y .0, y .2) in
-    came-length (set s name v) (rw (le-leb (sheetLength (set s name v)) limit l) refl) (record { bytes = y .1; long = y .2; fits = y .0; good = set-good s word 6 name v (h .good) a g })
+    is-bound-length (set s name v) (rw (le-leb (sheetLength (set s name v)) limit l) refl) (record { bytes = y .1; long = y .2; fits = y .0; good = set-good s word 6 name v (h .good) a g })
 
 -- ALL NAMES. What is left of binding all records of z: those from i on, in the records that c holds.
 pub record Walking (limit : ℕ) (a : Answer Records) (z : List ℕ) (i : ℕ) (c : List ℕ) (n : ℕ) : Type 0 where
@@ -126,17 +126,17 @@ module _ {limit : ℕ} {a : Answer Records} {z : List ℕ} {i : ℕ} {c : List �
   pub meeting-at : Meeting limit a z i c n → At z i
   meeting-at k = record { n = k .m; v = k .w; r = k .q; j = length z; part = k .part }
 
-  walk-end : Walking limit a z i c n → length z ≤ i → Came limit a c (Length n)
+  walk-end : Walking limit a z i c n → length z ≤ i → IsBound limit a c (Length n)
   unfolding encode bindAll
   walk-end k h = go (k .left) (k .is) (k .part)
     where
-      go : (q : Records) → a ≡ bindAll limit (k .so) q → Part z i (encode q) (length z) → Came limit a c (Length n)
-      go end e p = came-length (k .so) e (k .holds)
+      go : (q : Records) → a ≡ bindAll limit (k .so) q → Part z i (encode q) (length z) → IsBound limit a c (Length n)
+      go end e p = is-bound-length (k .so) e (k .holds)
       go (rec m w q) e p = absurd (omega (arith, p .ends))
 
-  module _ (k : Meeting limit a z i c n) {o : Item} (d : Told z i (k .m) (k .w) (k .q) (length z) o) {c′ : List ℕ} {x : Bound} (w : BindsTo c n limit (asked false (slice (o .from) (o .to) z)) (k .w) c′ x) where
-    met : Came limit (bindOne limit (k .so) (k .m) (k .w)) c′ x
-    unfolding asked
+  module _ (k : Meeting limit a z i c n) {o : Item} (d : IsItem z i (k .m) (k .w) (k .q) (length z) o) {c′ : List ℕ} {x : Bound} (w : BindsTo c n limit (underscoredIf false (slice (o .from) (o .to) z)) (k .w) c′ x) where
+    met : IsBound limit (bindOne limit (k .so) (k .m) (k .w)) c′ x
+    unfolding underscoredIf
     met =
         let g = good-parts (k .m) (k .w) (k .q) word 6 (k .good) in
         came-one x (k .holds) (g .name) (g .value) (rw (part-slice (d .name)) at w)
@@ -162,15 +162,15 @@ module _ {z b : List ℕ} {n limit : ℕ} (p : Ready z b n limit) {c : List ℕ}
   pub all-bindable : Bindable c len limit
   all-bindable = holds-bindable (all-next .holds) (omega (arith, p .room, k .size)) (p .most)
 
-  module _ {o : Item} (d : (n : List ℕ) (v : Value) (r : Records) (j : ℕ) → Part z i (encode (rec n v r)) j → Told z i n v r j o) where
-    pub all-told : Told z i (all-next .m) (all-next .w) (all-next .q) (length z) o
+  module _ {o : Item} (d : (n : List ℕ) (v : Value) (r : Records) (j : ℕ) → Part z i (encode (rec n v r)) j → IsItem z i n v r j o) where
+    pub all-told : IsItem z i (all-next .m) (all-next .w) (all-next .q) (length z) o
     all-told = d _ _ _ _ (all-next .part)
 
     module _ (f : Found) (g : (v : Value) → Body z v o → Gives z (some v) f) where
       pub all-there : IsThere z f
       all-there = record { v = all-next .w; gives = g (all-next .w) (item-body all-told) }
 
-      module _ {c′ : List ℕ} {x : Bound} (w : (v : Value) → Gives z (some v) f → BindsTo c len limit (asked false (slice (o .from) (o .to) z)) v c′ x) where
+      module _ {c′ : List ℕ} {x : Bound} (w : (v : Value) → Gives z (some v) f → BindsTo c len limit (underscoredIf false (slice (o .from) (o .to) z)) v c′ x) where
         pub all-size : length c′ ≡ length b
         all-size = w _ (all-there .gives) .long ∙ k .size
 
@@ -178,7 +178,7 @@ module _ {z b : List ℕ} {n limit : ℕ} (p : Ready z b n limit) {c : List ℕ}
         unfolding bindNames
         all-over e = record {
           size = all-size;
-          binds = λ s r. let y = meeting (k .walk s r) h in let t = d _ _ _ _ (y .part) in came-over (met-over y t (w _ (g _ (item-body t))) e);
+          binds = λ s r. let y = meeting (k .walk s r) h in let t = d _ _ _ _ (y .part) in is-bound-over (met-over y t (w _ (g _ (item-body t))) e);
         }
 
         pub all-on : {e m : ℕ} → x ≡ Length m → ((r : Records) (j : ℕ) → Holding z (o .next) (o .count) r j → e ≡ j) → BindingAll z b n limit c′ m e
@@ -193,18 +193,18 @@ sheet-level r = record { r = r .r; p = word; l = 6; part = sheet-part r; good = 
 
 pub none-bound : {z b : List ℕ} {n limit : ℕ} → Ready z b n limit → BindsNames (listed []) z b n limit b (Length n)
 unfolding bindNames bindListed
-none-bound p = record { size = refl; binds = λ s r. came-length (s .r) refl (ready-holds p s) }
+none-bound p = record { size = refl; binds = λ s r. is-bound-length (s .r) refl (ready-holds p s) }
 
-one-word : (limit : ℕ) (s r : Records) (w : List ℕ) {c : List ℕ} {o : Bound} (x : Option Value) → get r w ≡ x → Came limit (bindIf limit s w x) c o → Came limit (bindNames limit s r (listed (w ∷ []))) c o
+one-word : (limit : ℕ) (s r : Records) (w : List ℕ) {c : List ℕ} {o : Bound} (x : Option Value) → get r w ≡ x → IsBound limit (bindIf limit s w x) c o → IsBound limit (bindNames limit s r (listed (w ∷ []))) c o
 unfolding bindNames bindListed
 one-word limit s r w x e h = record {
   over = λ q. bind-refused _ _ (ap (bindIf limit s w) e ∙ h .over q);
   bound = λ m q. let y = h .bound m q in (y .0, bind-accepted _ _ (ap (bindIf limit s w) e ∙ y .1), y .2);
 }
 
-module _ {z b : List ℕ} {n limit : ℕ} (p : Ready z b n limit) (w : List ℕ) (f : Found) (g : (l : Level z 0 (length z)) → Gives z (get (l .r) (asked false w)) f) where
+module _ {z b : List ℕ} {n limit : ℕ} (p : Ready z b n limit) (w : List ℕ) (f : Found) (g : (l : Level z 0 (length z)) → Gives z (get (l .r) (underscoredIf false w)) f) where
   gives-word : (r : IsSheet z) → Gives z (get (r .r) w) f
-  unfolding asked
+  unfolding underscoredIf
   gives-word r = g (sheet-level r)
 
   pub word-bindable : Bindable b n limit
@@ -217,12 +217,12 @@ module _ {z b : List ℕ} {n limit : ℕ} (p : Ready z b n limit) (w : List ℕ)
   unfolding bindIf Gives
   word-missing e = record {
     size = refl;
-    binds = λ s r. let y : get (r .r) w ≡ none = rw e at (gives-word r) in one-word limit (s .r) (r .r) w none y (came-length (s .r) refl (ready-holds p s));
+    binds = λ s r. let y : get (r .r) w ≡ none = rw e at (gives-word r) in one-word limit (s .r) (r .r) w none y (is-bound-length (s .r) refl (ready-holds p s));
   }
 
-  module _ {c : List ℕ} {o : Bound} (x : (v : Value) → Gives z (some v) f → BindsTo b n limit (asked false w) v c o) where
+  module _ {c : List ℕ} {o : Bound} (x : (v : Value) → Gives z (some v) f → BindsTo b n limit (underscoredIf false w) v c o) where
     pub word-bound : (f ≡ Missing → ⊥) → BindsNames (listed (w ∷ [])) z b n limit c o
-    unfolding bindIf asked
+    unfolding bindIf underscoredIf
     word-bound h = record {
       size = x _ (word-there h .gives) .long;
       binds = λ s r.
@@ -259,7 +259,7 @@ module _ {xs : List (List ℕ)} (ys : List (List ℕ)) {z b : List ℕ} {n limit
   -- Behind words that are refused nothing is bound.
   pub names-over : o ≡ Over → BindsNames (listed (xs ++ ys)) z b n limit c Over
   unfolding bindNames
-  names-over e = record { size = w .size; binds = λ s r. came-over (listed-append limit (s .r) (r .r) xs ys ∙ bind-refused _ _ (w .binds s r .over e)) }
+  names-over e = record { size = w .size; binds = λ s r. is-bound-over (listed-append limit (s .r) (r .r) xs ys ∙ bind-refused _ _ (w .binds s r .over e)) }
 
   -- Behind words that are bound the others are.
   pub names-then : {m : ℕ} {c′ : List ℕ} {o′ : Bound} → o ≡ Length m → BindsNames (listed ys) z c m limit c′ o′ → BindsNames (listed (xs ++ ys)) z b n limit c′ o′

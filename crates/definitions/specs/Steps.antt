@@ -18,14 +18,14 @@ use Rattle.rules.specs.Laws.Numbers.{numberedE}
 use Rattle.rules.specs.Laws.Values.{numberedOr, didHas, reads-definition}
 use Rattle.scan.specs.Sets.{part, Spans}
 use Rattle.buffers.specs.Emits.{guard, guard-yes, guard-no}
-use Rattle.sheet.specs.Order.{asked}
+use Rattle.sheet.specs.Order.{underscoredIf}
 use Rattle.sheet.specs.Place.{Between}
 use Rattle.sheet.specs.Mark.{Mark, Marked, mark-of}
 use Rattle.sheet.specs.Write.{IsSource, BindsAt}
 use Rattle.sheet.specs.Use.{Holds, holds-sheet, Keeps, keeps-holds, leaves-bytes, leaves-over}
 use Rattle.sheet.specs.declared.bind.Put.{Put}
 use Rattle.sheet.specs.declared.bind.Bound.the-variants.{Over, Length}
-use Rattle.values.specs.declared.Valued.{Valued}
+use Rattle.values.specs.declared.ValueRead.{ValueRead}
 use Rattle.values.specs.Values.{Taken, ReadsValue}
 use Rattle.definitions.specs.declared.steps.Stepped.{Stepped}
 
@@ -66,7 +66,7 @@ module _ (limit : ℕ) {t : List ℕ} {at a b e : ℕ} (X : Spans blank t at a) 
   unfolding letStep _>>=_ _>>_ ret
   let-reads i s = rw (X .rest, Y .rest, Y .took, Z .rest) refl
 
-  module _ {l : List ℕ} {n : ℕ} {w w₂ : List ℕ} {v : Valued} (R : ReadsValue limit (λ s. value limit s (dictionaryValue limit s 6)) t e (take n l) w w₂ v) where
+  module _ {l : List ℕ} {n : ℕ} {w w₂ : List ℕ} {v : ValueRead} (R : ReadsValue limit (λ s. value limit s (dictionaryValue limit s 6)) t e (take n l) w w₂ v) where
     pub let-no : v .ok ≡ false → DefinesLet limit t at l n l (record { ok = false; number = v .number; at = v .at; len = n; last = 0 })
     unfolding letBound bound
     let-no h = record {
@@ -89,9 +89,9 @@ module _ (limit : ℕ) {t : List ℕ} {at a b e : ℕ} (X : Spans blank t at a) 
       unfolding letBound
       let-is i {s} g = let-reads i s ∙ λ y. (letBound s (underscored (part t a b)) (taken g .is y), taken g .rest y)
 
-      module _ {last : ℕ} {m : List ℕ} {o : Put} (B : (x : Value) → IsSource x (v .bit) (v .size) (take (v .len) w₂) → BindsAt l n last limit (asked true (part t a b)) x m o) where
+      module _ {last : ℕ} {m : List ℕ} {o : Put} (B : (x : Value) → IsSource x (v .bit) (v .count) (take (v .len) w₂) → BindsAt l n last limit (underscoredIf true (part t a b)) x m o) where
         binds : {s : Records} (g : Holds s l n limit) → BindsAt l n last limit (underscored (part t a b)) (taken g .v) m o
-        unfolding asked
+        unfolding underscoredIf
         binds g = B (taken g .v) (taken g .source)
 
         module _ (k : Keeps l n limit) where

@@ -57,7 +57,7 @@ pub fn let_step(
         &text[from..to],
         true,
         v.bit,
-        v.size,
+        v.count,
         &work[..len],
     );
     let bound = o.bound;

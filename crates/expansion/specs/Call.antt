@@ -20,23 +20,23 @@ use Rattle.buffers.specs.Emits.{Emits, emits-put, emits-fills, emits-fail}
 use Rattle.calls.specs.declared.Outcome.the-variants.{HandedBack, Refused, Output}
 use Rattle.calls.specs.declared.Called.{Called}
 use Rattle.calls.specs.Called.{Says, Calls}
-use Rattle.expansion.specs.declared.call_steps.Came.{Came}
+use Rattle.expansion.specs.declared.call_steps.WriteStep.{WriteStep}
 
 -- The text v is output, and reading goes on at e.
-pub record Shows (full : ℕ) (v : List ℕ) (e : ℕ) (w : Bool) (b : List ℕ) (p : ℕ) (c : List ℕ) (r : Came) : Type 0 where
+pub record Shows (full : ℕ) (v : List ℕ) (e : ℕ) (w : Bool) (b : List ℕ) (p : ℕ) (c : List ℕ) (r : WriteStep) : Type 0 where
   pub emits : Emits full (length b) (put v ok) b p c (r .ok) (r .number) (r .next)
   pub at : r .at ≡ e
   pub wholes : r .whole ≡ w
 
 -- The step d of the records s: what it writes, and, if all is written, where reading goes on.
-pub record Does (full : ℕ) (d : Did Records × List ℕ) (s : Records) (t b : List ℕ) (p : ℕ) (c : List ℕ) (r : Came) : Type 0 where
+pub record Does (full : ℕ) (d : Did Records × List ℕ) (s : Records) (t b : List ℕ) (p : ℕ) (c : List ℕ) (r : WriteStep) : Type 0 where
   pub emits : Emits full (length b) (d .0 .emit) b p c (r .ok) (r .number) (r .next)
   pub state : d .0 .state ≡ s
   pub rest : r .ok ≡ true → d .1 ≡ drop (r .at) t
   pub wholes : r .ok ≡ true → d .0 .whole ≡ r .whole
 
 -- The call k was read in t, from behind the `(` at e; o is the buffer that it leaves.
-pub record Ends (full : ℕ) (k : Called) (t : List ℕ) (at e : ℕ) (o : List ℕ) (p : ℕ) (c : List ℕ) (r : Came) : Type 0 where
+pub record Ends (full : ℕ) (k : Called) (t : List ℕ) (at e : ℕ) (o : List ℕ) (p : ℕ) (c : List ℕ) (r : WriteStep) : Type 0 where
   pub size : length c ≡ length o
   pub on : e ≤ k .at → e ≤ r .at
   pub inside : k .at ≤ length t → r .at ≤ length t
@@ -48,7 +48,7 @@ shows {full} h s = record { emits = emits-put {full = full} h s; at = refl; whol
 
 -- The ways through the end of a call.
 module _ (full : ℕ) (k : Called) (t : List ℕ) (at e : ℕ) (o : List ℕ) (p : ℕ) where
-  pub ends-back : k .outcome ≡ HandedBack → e ≤ length t → {c : List ℕ} {r : Came} → Shows full (part t at e) e (ltb (k .at) (length t)) o p c r → Ends full k t at e o p c r
+  pub ends-back : k .outcome ≡ HandedBack → e ≤ length t → {c : List ℕ} {r : WriteStep} → Shows full (part t at e) e (ltb (k .at) (length t)) o p c r → Ends full k t at e o p c r
   unfolding Says callDid write
   ends-back h i {c} {r} w = record {
     size = w .emits .size;
@@ -100,7 +100,7 @@ module _ (full : ℕ) (k : Called) (t : List ℕ) (at e : ℕ) (o : List ℕ) (p
       })
 
 -- The step f from i on, for the sheet z.
-pub record StepsBy (full : ℕ) (f : Records → Reader (Did Records)) (t : List ℕ) (i : ℕ) (z b : List ℕ) (p : ℕ) (c : List ℕ) (r : Came) : Type 0 where
+pub record StepsBy (full : ℕ) (f : Records → Reader (Did Records)) (t : List ℕ) (i : ℕ) (z b : List ℕ) (p : ℕ) (c : List ℕ) (r : WriteStep) : Type 0 where
   pub size : length c ≡ length b
   pub on : i ≤ r .at
   pub inside : r .at ≤ length t
@@ -114,7 +114,7 @@ mark-part m t at i h k =
     ap (λ x. take x (drop at t)) z ∙ ap (take (length m + n)) (prefix-split m (drop at t) h) ∙ take-append-add m (drop (length m) (drop at t)) n ∙ ap (λ x. m ++ take n x) (drop-drop (length m) at t)
 
 -- The ways through a call's step. m: its mark, at a place; call: how it is read.
-module _ {full : ℕ} (m : List ℕ) (call : Records → Reader Call) {t : List ℕ} {at : ℕ} (M : Starts m t at true) {i : ℕ} (L : Spans lineBlank t (at + length m) i) {f : Bool} (q : Sees (byteIs 40) t i f) {z b : List ℕ} {p : ℕ} {c : List ℕ} {r : Came} where
+module _ {full : ℕ} (m : List ℕ) (call : Records → Reader Call) {t : List ℕ} {at : ℕ} (M : Starts m t at true) {i : ℕ} (L : Spans lineBlank t (at + length m) i) {f : Bool} (q : Sees (byteIs 40) t i f) {z b : List ℕ} {p : ℕ} {c : List ℕ} {r : WriteStep} where
   pub step-plain : f ≡ false → Shows full (part t at i) i true b p c r → StepsBy full (λ s. callStep m (call s) s) t (at + length m) z b p c r
   unfolding callStep writes _>>=_ ifR ret
   step-plain e w = record { size = w .emits .size; on = omega (arith, L .on, w .at); inside = omega (arith, L .inside, w .at); does = λ s. does (s .r) }

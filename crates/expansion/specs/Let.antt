@@ -16,7 +16,7 @@ use Rattle.scan.specs.Sets.{part, Spans, Skips}
 use Rattle.scan.specs.Stretches.{span-took, all-part}
 use Rattle.scan.specs.Paths.{Trims}
 use Rattle.scan.specs.declared.paths.Range.{Range}
-use Rattle.sheet.specs.Order.{asked}
+use Rattle.sheet.specs.Order.{underscoredIf}
 use Rattle.sheet.specs.Find.{IsSheet, Gives}
 use Rattle.sheet.specs.Write.{BindsTo, IsThere}
 use Rattle.sheet.specs.Use.{Holds, found-there, bound-bytes, over-long}
@@ -84,24 +84,24 @@ line-is {t} {a = a} x y z w m k = record {
 }
 
 -- BINDING.
-module _ (b : List ℕ) (n : ℕ) (v : List ℕ) (f : Found) (told : (r : Records) → take n b ≡ encode r → goodRecords r word 6 ≡ true → Gives (take n b) (resolve r (asked false v)) f) where
+module _ (b : List ℕ) (n : ℕ) (v : List ℕ) (f : Found) (told : (r : Records) → take n b ≡ encode r → goodRecords r word 6 ≡ true → Gives (take n b) (resolve r (underscoredIf false v)) f) where
   gives-line : (s : IsSheet (take n b)) → Gives (take n b) (resolve (s .r) v) f
-  unfolding asked
+  unfolding underscoredIf
   gives-line s = told (s .r) (s .bytes) (s .good)
 
   pub line-there : IsSheet (take n b) → (f ≡ Missing → ⊥) → IsThere (take n b) f
   line-there s h = let w = found-there (take n b) _ f (gives-line s) h in record { v = w .0; gives = w .2 }
 
   module _ {limit : ℕ} {name c : List ℕ} {o : Bound} where
-    pub bind-missing : f ≡ Missing → BindsTo b n limit (asked true name) (text v) c o → BindsLine b n limit name v c o
-    unfolding asked letValue Gives
+    pub bind-missing : f ≡ Missing → BindsTo b n limit (underscoredIf true name) (text v) c o → BindsLine b n limit name v c o
+    unfolding underscoredIf letValue Gives
     bind-missing e w = record {
       size = w .long;
       binds = λ s. let g : resolve (s .r) v ≡ none = rw e at (gives-line s) in rw g w;
     }
 
-    pub bind-there : IsSheet (take n b) → (f ≡ Missing → ⊥) → ((x : Value) → Gives (take n b) (some x) f → BindsTo b n limit (asked true name) x c o) → BindsLine b n limit name v c o
-    unfolding asked letValue
+    pub bind-there : IsSheet (take n b) → (f ≡ Missing → ⊥) → ((x : Value) → Gives (take n b) (some x) f → BindsTo b n limit (underscoredIf true name) x c o) → BindsLine b n limit name v c o
+    unfolding underscoredIf letValue
     bind-there i h w = record {
       size = w _ (line-there i h .gives) .long;
       binds = λ s. let g = found-there (take n b) (resolve (s .r) v) f (gives-line s) h in rw (g .1) (w (g .0) (g .2));

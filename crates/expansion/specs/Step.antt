@@ -15,7 +15,7 @@ use Rattle.scan.specs.Sets.{Starts}
 use Rattle.scan.specs.Laws.{mark-yes, mark-no}
 use Rattle.buffers.specs.Emits.{Emits, emits-ok, guard, guard-yes, guard-no}
 use Rattle.sheet.specs.Find.{IsSheet}
-use Rattle.expansion.specs.declared.call_steps.Came.{Came}
+use Rattle.expansion.specs.declared.call_steps.WriteStep.{WriteStep}
 use Rattle.expansion.specs.declared.steps.Let.{Let}
 use Rattle.expansion.specs.declared.steps.Went.{Went}
 use Rattle.expansion.specs.declared.step.Stepped.{Stepped}
@@ -31,7 +31,7 @@ pub record Unbound (t : List ℕ) (at : ℕ) : Type 0 where
   pub hash : Starts (bytes "#") t at true
 
 -- The step at `at` keeps the records of the sheet z, and goes on behind its first byte.
-pub record WritesAt (full : ℕ) (v : View) (t : List ℕ) (at : ℕ) (z b : List ℕ) (p : ℕ) (c : List ℕ) (r : Came) : Type 0 where
+pub record WritesAt (full : ℕ) (v : View) (t : List ℕ) (at : ℕ) (z b : List ℕ) (p : ℕ) (c : List ℕ) (r : WriteStep) : Type 0 where
   pub size : length c ≡ length b
   pub on : at < r .at
   pub inside : r .at ≤ length t
@@ -79,7 +79,7 @@ module _ (v : View) (s : Records) {t : List ℕ} {at : ℕ} (u : Unbound t at) {
 
 -- The ways through the step that keeps the sheet.
 module _ {full : ℕ} {v : View} {t : List ℕ} {at : ℕ} (u : Unbound t at) {a : Bool} (R : Starts (bytes "#raw") t at a) {z b : List ℕ} {p : ℕ} {c : List ℕ} where
-  pub writes-raw : {r : Came} → a ≡ true → StepsBy full (λ s. callStep (bytes "#raw") (raw v (resolveString s)) s) t (at + 4) z b p c r → WritesAt full v t at z b p c r
+  pub writes-raw : {r : WriteStep} → a ≡ true → StepsBy full (λ s. callStep (bytes "#raw") (raw v (resolveString s)) s) t (at + 4) z b p c r → WritesAt full v t at z b p c r
   writes-raw {r} e w = record {
     size = w .size;
     on = omega (arith, w .on);
@@ -88,7 +88,7 @@ module _ {full : ℕ} {v : View} {t : List ℕ} {at : ℕ} (u : Unbound t at) {a
   }
 
   module _ (na : a ≡ false) {k : Bool} (K : Starts (bytes "#link") t at k) where
-    pub writes-link : {r : Came} → k ≡ true → StepsBy full (λ s. callStep (bytes "#link") (link (resolveString s)) s) t (at + 5) z b p c r → WritesAt full v t at z b p c r
+    pub writes-link : {r : WriteStep} → k ≡ true → StepsBy full (λ s. callStep (bytes "#link") (link (resolveString s)) s) t (at + 5) z b p c r → WritesAt full v t at z b p c r
     writes-link {r} e w = record {
       size = w .size;
       on = omega (arith, w .on);
@@ -154,7 +154,7 @@ module _ {limit full : ℕ} {v : View} {t : List ℕ} {at : ℕ} {i : Bool} (I :
           });
     }
 
-pub steps-writes : {limit full : ℕ} {v : View} {t : List ℕ} {at : ℕ} {b : List ℕ} {p : ℕ} {c l : List ℕ} {n : ℕ} {r : Came} → WritesAt full v t at (take n l) b p c r →
+pub steps-writes : {limit full : ℕ} {v : View} {t : List ℕ} {at : ℕ} {b : List ℕ} {p : ℕ} {c l : List ℕ} {n : ℕ} {r : WriteStep} → WritesAt full v t at (take n l) b p c r →
     Steps limit full v t at b p c l n l (record { ok = r .ok; number = r .number; whole = r .whole; at = r .at; next = r .next; len = n })
 steps-writes {limit} {full} {v} {t} {at} {b} {p} {c} {l} {n} {r} w = record {
   size = w .size;

@@ -18,7 +18,7 @@ ghost use Rattle.sheet.specs.Find.{IsSheet};
 ghost use Rattle.expansion.specs.Call.{Shows, Ends, StepsBy};
 
 // What a call's step came to: has all been written; if not, the refusal's number; is it whole (section 6); where reading goes on, and the writer.
-pub struct Came {
+pub struct WriteStep {
     pub ok: bool,
     pub number: u8,
     pub whole: bool,
@@ -27,13 +27,21 @@ pub struct Came {
 }
 
 // Outputs the mark and the blanks behind it, from `at` to `end`, and goes on there.
-fn show(text: &[u8], at: usize, end: usize, whole: bool, out: &mut [u8], p: usize, full: u8) -> Came
+fn show(
+    text: &[u8],
+    at: usize,
+    end: usize,
+    whole: bool,
+    out: &mut [u8],
+    p: usize,
+    full: u8,
+) -> WriteStep
     requires { ⌜ (at ≤ end) × (end ≤ length (now text)) × (p ≤ length (now out)) ⌝ }
     ensures { λ r. ⌜ Shows full (part (now (text .entry)) at end) end whole (now (out .entry)) p (now (out .exit)) r ⌝ }
 {
     let room = out.len();
     let q = buffers::put(out, room, p, &text[at..end]);
-    Came {
+    WriteStep {
         ok: q <= room,
         number: full,
         whole: whole,
@@ -51,21 +59,21 @@ fn end_call(
     out: &mut [u8],
     p: usize,
     full: u8,
-) -> Came
+) -> WriteStep
     requires { ⌜ (at ≤ end) × (end ≤ length (now text)) × (p ≤ length (now out)) ⌝ }
     ensures { λ r. ⌜ Ends full c (now (text .entry)) at end (now (out .entry)) p (now (out .exit)) r ⌝ }
 {
     let outcome = c.outcome;
     match outcome {
         Outcome::HandedBack => show(text, at, end, c.at < text.len(), out, p, full),
-        Outcome::Refused { number } => Came {
+        Outcome::Refused { number } => WriteStep {
             ok: false,
             number: number,
             whole: true,
             at: c.at,
             next: p,
         },
-        Outcome::Output { whole, next } => Came {
+        Outcome::Output { whole, next } => WriteStep {
             ok: next <= out.len(),
             number: full,
             whole: whole,
@@ -84,7 +92,7 @@ pub fn raw_step(
     out: &mut [u8],
     p: usize,
     full: u8,
-) -> Came
+) -> WriteStep
     requires { ⌜ (isSome (bundleOf (now b)) ≡ true) × Starts (bytes "#raw") (now text) at true × (p ≤ length (now out)) × IsSheet (now sheet) ⌝ }
     ensures { λ r. ⌜ StepsBy full (λ s. callStep (bytes "#raw") (raw (view (entriesOf (now (b .entry)))) (resolveString s)) s) (now (text .entry)) (at + 4) (now (sheet .entry)) (now (out .entry)) p (now (out .exit)) r ⌝ }
 {
@@ -97,7 +105,14 @@ pub fn raw_step(
 }
 
 // `#link`, whose mark stands at a place.
-pub fn link_step(text: &[u8], at: usize, sheet: &[u8], out: &mut [u8], p: usize, full: u8) -> Came
+pub fn link_step(
+    text: &[u8],
+    at: usize,
+    sheet: &[u8],
+    out: &mut [u8],
+    p: usize,
+    full: u8,
+) -> WriteStep
     requires { ⌜ Starts (bytes "#link") (now text) at true × (p ≤ length (now out)) × IsSheet (now sheet) ⌝ }
     ensures { λ r. ⌜ StepsBy full (λ s. callStep (bytes "#link") (link (resolveString s)) s) (now (text .entry)) (at + 5) (now (sheet .entry)) (now (out .entry)) p (now (out .exit)) r ⌝ }
 {

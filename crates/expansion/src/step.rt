@@ -1,5 +1,5 @@
 // One step of the expansion at a `#`, by the first of the marks that stands there.
-use crate::call_steps::Came;
+use crate::call_steps::WriteStep;
 use crate::call_steps::link_step;
 use crate::call_steps::raw_step;
 use crate::steps::import_step;
@@ -29,7 +29,7 @@ fn writing_step(
     out: &mut [u8],
     p: usize,
     full: u8,
-) -> Came
+) -> WriteStep
     requires { ⌜ (isSome (bundleOf (now b)) ≡ true) × Unbound (now text) at × (p ≤ length (now out)) × IsSheet (now sheet) ⌝ }
     ensures { λ r. ⌜ WritesAt full (view (entriesOf (now (b .entry)))) (now (text .entry)) at (now (sheet .entry)) (now (out .entry)) p (now (out .exit)) r ⌝ }
 {
@@ -41,7 +41,7 @@ fn writing_step(
     }
     let room = out.len();
     let r = reference_step(text, at + 1, sheet, out, room, p, full);
-    Came {
+    WriteStep {
         ok: r.ok,
         number: r.number,
         whole: true,

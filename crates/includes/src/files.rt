@@ -20,26 +20,26 @@ ghost use Rattle.buffers.specs.Emits.{Emits};
 ghost use Rattle.includes.specs.Files.{refusedFile, OpensFile, blockText, EndsLine};
 
 // Has all been written; if not, the refusal's number. Where the writer goes on.
-pub struct Went {
+pub struct Written {
     pub ok: bool,
     pub number: u8,
     pub next: usize,
 }
 
 // Puts the newline behind an included file, unless that was refused.
-pub fn newline(ok: bool, number: u8, out: &mut [u8], room: usize, p: usize, full: u8) -> Went
+pub fn newline(ok: bool, number: u8, out: &mut [u8], room: usize, p: usize, full: u8) -> Written
     requires { ⌜ (ok ≡ true → Writer room p) ⌝ }
     ensures { λ r. ⌜ EndsLine ok number full room (now (out .entry)) p (now (out .exit)) (r .ok) (r .number) (r .next) ⌝ }
 {
     if !ok {
-        return Went {
+        return Written {
             ok: false,
             number: number,
             next: p,
         };
     }
     let q = buffers::put_byte(out, room, p, b'\n');
-    Went {
+    Written {
         ok: q <= room,
         number: full,
         next: q,
@@ -157,13 +157,13 @@ pub fn source(
     room: usize,
     p: usize,
     full: u8,
-) -> Went
+) -> Written
     requires { ⌜ (isSome (bundleOf (now b)) ≡ true) × Writer room p × (p ≤ room) × (length (now out) ≤ room) ⌝ }
     ensures { λ r. ⌜ Emits full room (fenced (now (lang .entry)) (opened (view (entriesOf (now (b .entry)))) (join (projectRoot (view (entriesOf (now (b .entry)))) (now (folder .entry))) (now (path .entry))))) (now (out .entry)) p (now (out .exit)) (r .ok) (r .number) (r .next) ⌝ }
 {
     let f = open_source(b, folder, path);
     match f {
-        Opened::Refused(k) => Went {
+        Opened::Refused(k) => Written {
             ok: false,
             number: k,
             next: p,
@@ -171,7 +171,7 @@ pub fn source(
         Opened::Text { start, len } => {
             let end = start + len;
             let q = block(lang, &b[start..end], out, room, p);
-            Went {
+            Written {
                 ok: q <= room,
                 number: full,
                 next: q,

@@ -20,7 +20,7 @@ mod files;
 mod marks;
 mod read;
 
-use files::Went;
+use files::Written;
 use read::Reading;
 
 // What resolving a text came to: has all been written; if not, the refusal's number; where the writer goes on; and, if all has been
@@ -43,14 +43,14 @@ fn take(
     p: usize,
     full: u8,
     levels: usize,
-) -> Went
+) -> Written
     requires { ⌜ (isSome (bundleOf (now b)) ≡ true) × Writer room p × (p ≤ room) × (length (now out) ≤ room) × Within (now text) what ⌝ }
     ensures { λ r. ⌜ Emits full room (emitOf (view (entriesOf (now (b .entry)))) (insideFile (view (entriesOf (now (b .entry)))) levels) (now (folder .entry)) (now (text .entry)) what) (now (out .entry)) p (now (out .exit)) (r .ok) (r .number) (r .next) ⌝ }
 {
     match what {
         Reading::Copied { from, to } => {
             let q = buffers::put(out, room, p, &text[from..to]);
-            Went {
+            Written {
                 ok: q <= room,
                 number: full,
                 next: q,
@@ -74,7 +74,7 @@ fn take(
         Reading::Include { from, to } => {
             let f = files::open_file(b, folder, &text[from..to], levels);
             if !f.ok {
-                return Went {
+                return Written {
                     ok: false,
                     number: f.number,
                     next: p,

@@ -125,8 +125,8 @@ unfoldable pub linkText : List ℕ → List ℕ → List ℕ
 linkText u w = elim (empty w || same w u) [ true ↦ u | false ↦ bytes "#link(\"" ++ (u ++ (bytes "\")[" ++ (w ++ bytes "]"))) ]
 
 -- At `)`: step over, skip line blanks, at `[` take text to `]` or the end and step over `]`. Without `[` the text is empty: the address.
-unfoldable pub linkBox : List ℕ → Reader Call
-linkBox u = do
+unfoldable pub linkContentBlock : List ℕ → Reader Call
+linkContentBlock u = do
   skip
   span lineBlank
   b ← sees (the "[")
@@ -143,7 +143,7 @@ unfoldable pub linkEnd : List ℕ → Reader Call
 linkEnd u = do
   span blank
   c ← sees (the ")")
-  ifR c (linkBox u) (do
+  ifR c (linkContentBlock u) (do
     span (but ")")
     e ← sees (the ")")
     skip

@@ -57,18 +57,18 @@ word16 = do
   pure (low + 256 * high)
 
 -- The next n bytes.
-unfoldable pub take : ℕ → Parser (List ℕ)
-take zero = pure []
-take (suc n) = do
+unfoldable pub takeBytes : ℕ → Parser (List ℕ)
+takeBytes zero = pure []
+takeBytes (suc n) = do
   x ← byte
-  xs ← take n
+  xs ← takeBytes n
   pure (x ∷ xs)
 
 -- A field: its length, 1 or more, then its bytes.
 unfoldable pub field : Parser ℕ → Parser (List ℕ)
 field len = do
   n ← len
-  t ← take n
+  t ← takeBytes n
   require (not (empty t))
   pure t
 

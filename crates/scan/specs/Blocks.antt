@@ -13,7 +13,7 @@ use Rattle.rules.specs.Laws.Bool.{and-l, and-r}
 use Rattle.scan.specs.Laws.{Spanning, spanning-on}
 
 -- good says whether the first i bytes of u all have p
-pub record Told (p : ℕ → Bool) (u : List ℕ) (i : ℕ) (good : Bool) : Type 0 where
+pub record AllUpTo (p : ℕ → Bool) (u : List ℕ) (i : ℕ) (good : Bool) : Type 0 where
   pub inside : i ≤ length u
   pub says : good ≡ all p (take i u)
 
@@ -24,28 +24,28 @@ module _ (p : ℕ → Bool) where
   all-last (y ∷ ys) x = ap (λ z. p y && z) (all-last ys x) ∙ sym (and-assoc (p y) (all p ys) (p x))
 
   module _ (u : List ℕ) where
-    pub told-start : Told p u 0 true
+    pub all-start : AllUpTo p u 0 true
     unfolding all
-    told-start = record { inside = omega arith; says = refl }
+    all-start = record { inside = omega arith; says = refl }
 
-    module _ (i : ℕ) {good : Bool} (s : Told p u i good) where
-      pub told-on : i < length u → Told p u (i + 1) (good && p (getD u i 0))
-      told-on h = record { inside = omega arith; says = rw (s .says, add-one, take-suc u i 0) (sym (all-last (take i u) (getD u i 0))) }
+    module _ (i : ℕ) {good : Bool} (s : AllUpTo p u i good) where
+      pub all-on : i < length u → AllUpTo p u (i + 1) (good && p (getD u i 0))
+      all-on h = record { inside = omega arith; says = rw (s .says, add-one, take-suc u i 0) (sym (all-last (take i u) (getD u i 0))) }
 
-      pub told-end : length u ≤ i → good ≡ all p u
-      told-end h = s .says ∙ rw (take-all i u h)
+      pub all-end : length u ≤ i → good ≡ all p u
+      all-end h = s .says ∙ rw (take-all i u h)
 
   -- A block: n bytes from `at` on.
   module _ (n : ℕ) (t : List ℕ) (at : ℕ) (fits : at + n ≤ length t) where
     block-length : length (take n (drop at t)) ≡ n
     block-length = length-take-le n (drop at t) (simp length-drop (omega arith))
 
-    module _ (i : ℕ) {good : Bool} (s : Told p (take n (drop at t)) i good) where
-      pub block-on : i < n → Told p (take n (drop at t)) (i + 1) (good && p (getD t (at + i) 0))
-      block-on h = rw (← getD-drop at t i 0, ← getD-take n (drop at t) i 0 h) (told-on (take n (drop at t)) i s (omega (arith, block-length)))
+    module _ (i : ℕ) {good : Bool} (s : AllUpTo p (take n (drop at t)) i good) where
+      pub block-on : i < n → AllUpTo p (take n (drop at t)) (i + 1) (good && p (getD t (at + i) 0))
+      block-on h = rw (← getD-drop at t i 0, ← getD-take n (drop at t) i 0 h) (all-on (take n (drop at t)) i s (omega (arith, block-length)))
 
       pub block-end : n ≤ i → good ≡ all p (take n (drop at t))
-      block-end h = told-end (take n (drop at t)) i s (omega (arith, block-length))
+      block-end h = all-end (take n (drop at t)) i s (omega (arith, block-length))
 
 -- A block of bytes that all have p moves a stretch on.
 module _ (p : ℕ → Bool) (t : List ℕ) (at : ℕ) where

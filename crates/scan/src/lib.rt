@@ -86,7 +86,7 @@ pub fn all(text: &[u8], set: Set) -> bool
 }
 
 // Has a block of 32 bytes no byte c? Every byte is looked at, so that the compiler compares many at once.
-fn lacks(text: &[u8], at: usize, c: u8) -> bool
+fn block_without(text: &[u8], at: usize, c: u8) -> bool
     requires { ⌜ at + 32 ≤ length (now text) ⌝ }
     ensures { λ r. ⌜ r ≡ all (notByte c) (take 32 (drop at (now (text .entry)))) ⌝ }
 {
@@ -106,7 +106,7 @@ pub fn find(text: &[u8], at: usize, c: u8) -> usize
 {
     let mut i = at;
     while 32 <= text.len() - i {
-        if !lacks(text, i, c) {
+        if !block_without(text, i, c) {
             return near(text, i, c);
         }
         i += 32;

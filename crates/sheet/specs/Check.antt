@@ -16,7 +16,7 @@ use Rattle.rules.specs.Sheet.{Value, text, nothing, dictionary, Records, end, r
 use Rattle.rules.specs.Laws.Bool.{and-l, and-r, and-i, not-true, isSome}
 use Rattle.sheet.specs.Parts.{slice}
 use Rattle.sheet.specs.Heads.{Shape, plain, absent, holding, shapeKind, shapeText, shapeCount, shape, head, IsItem, Reads}
-use Rattle.sheet.specs.Order.{orderOf, asked, order-less}
+use Rattle.sheet.specs.Order.{orderOf, underscoredIf, order-less}
 use Rattle.sheet.specs.declared.head.Head.{Head}
 use Rattle.sheet.specs.declared.head.Head.the-variants.{Bad as Broken, Record}
 use Rattle.sheet.specs.declared.head.Item.{Item}
@@ -85,8 +85,8 @@ pub record InLast (s : List ℕ) (l : Last) : Type 0 where
 unfoldable pub lastIn : List ℕ → Last → Option (List ℕ)
 lastIn s l = guard (l .known) (slice (l .from) (l .to) s)
 
-unfoldable pub suited : (ℕ → Bool) → Option (List ℕ) → List ℕ → Item → Bool
-suited p l s o = suits p l (slice (o .from) (o .to) s) (slice (o .at) (o .next) s)
+unfoldable pub keepsRules : (ℕ → Bool) → Option (List ℕ) → List ℕ → Item → Bool
+keepsRules p l s o = suits p l (slice (o .from) (o .to) s) (slice (o .at) (o .next) s)
 
 -- h is the head at i, if that suits.
 unfoldable pub Enters : List ℕ → ℕ → (ℕ → Bool) → Option (List ℕ) → Head → Type 0
@@ -372,22 +372,22 @@ check-long b h = sym (long-is b (decode b) h)
 
 -- THE CODE'S STEPS.
 module _ (p : ℕ → Bool) (s : List ℕ) (o : Item) (last : Last) where
-  pub fits-name : all p (slice (o .from) (o .to) s) ≡ false → false ≡ suited p (lastIn s last) s o
-  unfolding suited suits
+  pub fits-name : all p (slice (o .from) (o .to) s) ≡ false → false ≡ keepsRules p (lastIn s last) s o
+  unfolding keepsRules suits
   fits-name h = rw h refl
 
   module _ (h : all p (slice (o .from) (o .to) s) ≡ true) where
-    pub fits-text : all ascii (slice (o .at) (o .next) s) ≡ false → false ≡ suited p (lastIn s last) s o
-    unfolding suited suits
+    pub fits-text : all ascii (slice (o .at) (o .next) s) ≡ false → false ≡ keepsRules p (lastIn s last) s o
+    unfolding keepsRules suits
     fits-text k = rw (h, k) refl
 
     module _ (k : all ascii (slice (o .at) (o .next) s) ≡ true) where
-      pub fits-first : last .known ≡ false → true ≡ suited p (lastIn s last) s o
-      unfolding suited suits lastIn guard follows
+      pub fits-first : last .known ≡ false → true ≡ keepsRules p (lastIn s last) s o
+      unfolding keepsRules suits lastIn guard follows
       fits-first e = rw (h, k, e) refl
 
-      pub fits-order : last .known ≡ true → {c : ℕ} → c ≡ orderOf (slice (last .from) (last .to) s) (asked false (slice (o .from) (o .to) s)) → eqb c 0 ≡ suited p (lastIn s last) s o
-      unfolding suited suits lastIn guard follows asked
+      pub fits-order : last .known ≡ true → {c : ℕ} → c ≡ orderOf (slice (last .from) (last .to) s) (underscoredIf false (slice (o .from) (o .to) s)) → eqb c 0 ≡ keepsRules p (lastIn s last) s o
+      unfolding keepsRules suits lastIn guard follows underscoredIf
       fits-order e f = rw (h, k, e, f) (sym (order-less (slice (last .from) (last .to) s) (slice (o .from) (o .to) s) .0))
 
 pub in-sheet : (s : List ℕ) (i : ℕ) {h : Head} {o : Item} → Reads s i h → h ≡ Record o → InSheet s o
@@ -406,15 +406,15 @@ module _ (s : List ℕ) (i : ℕ) {h : Head} (r : Reads s i h) (p : ℕ → Bool
     unfolding Reads
     there = rw e at r
 
-    tested : (c : Bool) → suited p l s o ≡ c → goodHead p l (drop i s) ≡ guard c ((slice (o .from) (o .to) s, there .v), drop (o .next) s)
-    unfolding goodHead suited bind
+    tested : (c : Bool) → keepsRules p l s o ≡ c → goodHead p l (drop i s) ≡ guard c ((slice (o .from) (o .to) s, there .v), drop (o .next) s)
+    unfolding goodHead keepsRules bind
     tested c q = rw (there .is) (rw (← (there .text), q) refl)
 
-    pub enters-in : suited p l s o ≡ true → Enters s i p l (Record o)
+    pub enters-in : keepsRules p l s o ≡ true → Enters s i p l (Record o)
     unfolding Enters guard bind
     enters-in q = (there, tested true q ∙ sym (there .is))
 
-    pub enters-not : suited p l s o ≡ false → Enters s i p l Broken
+    pub enters-not : keepsRules p l s o ≡ false → Enters s i p l Broken
     unfolding Enters guard bind
     enters-not q = tested false q
 

@@ -14,7 +14,7 @@ use lib.ListN.{length, take, drop, getD, length-drop, length-append, drop-of-len
 use lib.Seq.{drop-cons, drop-drop}
 use borrow.Author.Tests.{eq-eqb, ne-eqb, eqb-true, eqb-false, ltb-true, ltb-false}
 use Rattle.rules.specs.Reader.{empty}
-use Rattle.rules.specs.Layout.{Parser, bind, _>>=_, _>>_, pure, broken, require, bit, byte, word16, take as taken, field, fieldIf}
+use Rattle.rules.specs.Layout.{Parser, bind, _>>=_, _>>_, pure, broken, require, bit, byte, word16, takeBytes, field, fieldIf}
 use Rattle.rules.specs.Laws.Bool.{or-elim, or-false-l, or-false-r}
 use Rattle.rules.specs.Laws.Layout.{word-at, word-end, takes, takes-short, take-some}
 use Rattle.sheet.specs.Parts.{slice}
@@ -115,7 +115,7 @@ Reads s i (Record o) = IsItem s i o
 
 -- LAWS.
 field-empty : (b c : List ℕ) → word16 b ≡ some (0, c) → field word16 b ≡ none
-unfolding field taken require empty pure broken bind _>>=_ _>>_
+unfolding field takeBytes require empty pure broken bind _>>=_ _>>_
 field-empty b c e = rw e refl
 
 field-long : (b c : List ℕ) (n : ℕ) → word16 b ≡ some (n, c) → length c < n → field word16 b ≡ none

@@ -21,7 +21,7 @@ use Rattle.scan.specs.Sets.{Spans}
 use Rattle.scan.specs.Laws.{but-yes, but-no}
 use Rattle.scan.specs.Stretches.{span-took, spans-stop}
 use Rattle.sheet.specs.Parts.{Part, slice, slice-part}
-use Rattle.sheet.specs.Order.{made, asked, asked-length, asked-slice, asked-dot, asked-getD, made-dot}
+use Rattle.sheet.specs.Order.{underscoreIf, underscoredIf, underscoredIf-length, underscoredIf-slice, underscoredIf-dot, underscoredIf-getD, underscoreIf-dot}
 use Rattle.sheet.specs.Find.{Gives, Level}
 use Rattle.sheet.specs.declared.lookup.Found.{Found}
 use Rattle.sheet.specs.declared.lookup.Found.the-variants.{Missing, None, Text, Dictionary}
@@ -43,12 +43,12 @@ dot-spans {t} {p} {q} s = record {
 }
 
 -- The same in a path as it is asked for.
-pub dot-asked : (b : Bool) (t : List ℕ) {p q : ℕ} → UpToDot t p q → UpToDot (asked b t) p q
-dot-asked b t {p} {q} d = record {
+pub dot-underscoredIf : (b : Bool) (t : List ℕ) {p q : ℕ} → UpToDot t p q → UpToDot (underscoredIf b t) p q
+dot-underscoredIf b t {p} {q} d = record {
   on = d .on;
-  inside = omega (arith, d .inside, asked-length b t);
-  none = rw (← asked-slice b p q t) (asked-dot b (slice p q t) ∙ d .none);
-  at = λ l. let h : q < length t = omega (arith, asked-length b t) in rw (asked-getD b t q h) (made-dot b (getD t q 0) ∙ d .at h);
+  inside = omega (arith, d .inside, underscoredIf-length b t);
+  none = rw (← underscoredIf-slice b p q t) (underscoredIf-dot b (slice p q t) ∙ d .none);
+  at = λ l. let h : q < length t = omega (arith, underscoredIf-length b t) in rw (underscoredIf-getD b t q h) (underscoreIf-dot b (getD t q 0) ∙ d .at h);
 }
 
 -- PIECES.
@@ -143,32 +143,32 @@ unfolding goodValue
 dictionary-good d zero h = absurd (false≢true h)
 dictionary-good d (suc m) h = (m, h)
 
-module _ {s : List ℕ} {at e p q : ℕ} {r : Records} (b : Bool) (path : List ℕ) (w : Walking s at e p r (asked b path)) (u₀ : UpToDot path p q) where
-  u : UpToDot (asked b path) p q
-  u = dot-asked b path u₀
+module _ {s : List ℕ} {at e p q : ℕ} {r : Records} (b : Bool) (path : List ℕ) (w : Walking s at e p r (underscoredIf b path)) (u₀ : UpToDot path p q) where
+  u : UpToDot (underscoredIf b path) p q
+  u = dot-underscoredIf b path u₀
 
-  pub walk-last : (f : Found) → q ≡ length path → Gives s (get (w .level .r) (asked b (slice p q path))) f → Gives s (resolve r (asked b path)) f
+  pub walk-last : (f : Found) → q ≡ length path → Gives s (get (w .level .r) (underscoredIf b (slice p q path))) f → Gives s (resolve r (underscoredIf b path)) f
   walk-last f h g =
-      let i : resolve r (asked b path) ≡ get (w .level .r) (asked b (slice p q path)) = w .same ∙ ap (getPieces (w .level .r)) (pieces-last u (omega (arith, asked-length b path))) ∙ pieces-one (w .level .r) (slice p q (asked b path)) ∙ ap (get (w .level .r)) (sym (asked-slice b p q path)) in
+      let i : resolve r (underscoredIf b path) ≡ get (w .level .r) (underscoredIf b (slice p q path)) = w .same ∙ ap (getPieces (w .level .r)) (pieces-last u (omega (arith, underscoredIf-length b path))) ∙ pieces-one (w .level .r) (slice p q (underscoredIf b path)) ∙ ap (get (w .level .r)) (sym (underscoredIf-slice b p q path)) in
       subst (λ z. Gives s z f) (sym i) g
 
   module _ (h : q < length path) where
-    more : resolve r (asked b path) ≡ getPieces (w .level .r) (asked b (slice p q path) ∷ split "." (drop (q + 1) (asked b path)))
-    more = w .same ∙ ap (getPieces (w .level .r)) (pieces-dot u (omega (arith, asked-length b path)) ∙ ap (λ z. z ∷ split "." (drop (q + 1) (asked b path))) (sym (asked-slice b p q path)))
+    more : resolve r (underscoredIf b path) ≡ getPieces (w .level .r) (underscoredIf b (slice p q path) ∷ split "." (drop (q + 1) (underscoredIf b path)))
+    more = w .same ∙ ap (getPieces (w .level .r)) (pieces-dot u (omega (arith, underscoredIf-length b path)) ∙ ap (λ z. z ∷ split "." (drop (q + 1) (underscoredIf b path))) (sym (underscoredIf-slice b p q path)))
 
-    pub walk-stop : (f : Found) → ((a c n : ℕ) → f ≡ Dictionary a c n → ⊥) → Gives s (get (w .level .r) (asked b (slice p q path))) f → Gives s (resolve r (asked b path)) Missing
+    pub walk-stop : (f : Found) → ((a c n : ℕ) → f ≡ Dictionary a c n → ⊥) → Gives s (get (w .level .r) (underscoredIf b (slice p q path))) f → Gives s (resolve r (underscoredIf b path)) Missing
     unfolding Gives
-    walk-stop Missing y g = more ∙ pieces-missing _ (split-full (drop (q + 1) (asked b path))) (w .level .r) (asked b (slice p q path)) g
-    walk-stop None y g = more ∙ pieces-none _ (split-full (drop (q + 1) (asked b path))) (w .level .r) (asked b (slice p q path)) g
-    walk-stop (Text a c) y g = more ∙ pieces-text _ (split-full (drop (q + 1) (asked b path))) (w .level .r) (asked b (slice p q path)) (g .0) (g .1)
+    walk-stop Missing y g = more ∙ pieces-missing _ (split-full (drop (q + 1) (underscoredIf b path))) (w .level .r) (underscoredIf b (slice p q path)) g
+    walk-stop None y g = more ∙ pieces-none _ (split-full (drop (q + 1) (underscoredIf b path))) (w .level .r) (underscoredIf b (slice p q path)) g
+    walk-stop (Text a c) y g = more ∙ pieces-text _ (split-full (drop (q + 1) (underscoredIf b path))) (w .level .r) (underscoredIf b (slice p q path)) (g .0) (g .1)
     walk-stop (Dictionary a c n) y g = absurd (y a c n refl)
 
-    pub walk-on : (f : Found) {a c n : ℕ} → f ≡ (Dictionary a c n) → Gives s (get (w .level .r) (asked b (slice p q path))) f → Walking s a c (q + 1) r (asked b path)
+    pub walk-on : (f : Found) {a c n : ℕ} → f ≡ (Dictionary a c n) → Gives s (get (w .level .r) (underscoredIf b (slice p q path))) f → Walking s a c (q + 1) r (underscoredIf b path)
     unfolding Gives
     walk-on f {a} {c} {n} y g₀ =
-        let g = subst (λ z. Gives s (get (w .level .r) (asked b (slice p q path))) z) y g₀ in
-        let o = dictionary-good (g .0) (w .level .l) (get-good (w .level .r) (w .level .p) (w .level .l) (asked b (slice p q path)) (dictionary (g .0)) (w .level .good) (g .1)) in
+        let g = subst (λ z. Gives s (get (w .level .r) (underscoredIf b (slice p q path))) z) y g₀ in
+        let o = dictionary-good (g .0) (w .level .l) (get-good (w .level .r) (w .level .p) (w .level .l) (underscoredIf b (slice p q path)) (dictionary (g .0)) (w .level .good) (g .1)) in
         record {
           level = record { r = g .0; p = nameByte; l = o .0; part = g .2; good = o .1 };
-          same = more ∙ pieces-dictionary _ (split-full (drop (q + 1) (asked b path))) (w .level .r) (asked b (slice p q path)) (g .0) (g .1);
+          same = more ∙ pieces-dictionary _ (split-full (drop (q + 1) (underscoredIf b path))) (w .level .r) (underscoredIf b (slice p q path)) (g .0) (g .1);
         }

@@ -17,78 +17,78 @@ use Rattle.rules.specs.Laws.Bool.{not-true}
 use Rattle.sheet.specs.Parts.{slice}
 
 -- A byte as it is asked for: in a reference `-` is made `_`.
-unfoldable pub made : Bool → ℕ → ℕ
-made true x = elim (the "-" x) [ true ↦ code "_" | false ↦ x ]
-made false x = x
+unfoldable pub underscoreIf : Bool → ℕ → ℕ
+underscoreIf true x = elim (the "-" x) [ true ↦ code "_" | false ↦ x ]
+underscoreIf false x = x
 
 -- A name as it is asked for: in a reference each `-` is made `_`.
-unfoldable pub asked : Bool → List ℕ → List ℕ
-asked true t = underscored t
-asked false t = t
+unfoldable pub underscoredIf : Bool → List ℕ → List ℕ
+underscoredIf true t = underscored t
+underscoredIf false t = t
 
-pub asked-nil : (b : Bool) → asked b [] ≡ []
-unfolding asked underscored
-asked-nil true = refl
-asked-nil false = refl
+pub underscoredIf-nil : (b : Bool) → underscoredIf b [] ≡ []
+unfolding underscoredIf underscored
+underscoredIf-nil true = refl
+underscoredIf-nil false = refl
 
-pub asked-cons : (b : Bool) (x : ℕ) (t : List ℕ) → asked b (x ∷ t) ≡ made b x ∷ asked b t
-unfolding asked made underscored
-asked-cons true x t = refl
-asked-cons false x t = refl
+pub underscoredIf-cons : (b : Bool) (x : ℕ) (t : List ℕ) → underscoredIf b (x ∷ t) ≡ underscoreIf b x ∷ underscoredIf b t
+unfolding underscoredIf underscoreIf underscored
+underscoredIf-cons true x t = refl
+underscoredIf-cons false x t = refl
 
-pub asked-length : (b : Bool) (t : List ℕ) → length (asked b t) ≡ length t
-asked-length b [] = rw (asked-nil b) refl
-asked-length b (x ∷ t) = rw (asked-cons b x t) (ap suc (asked-length b t))
+pub underscoredIf-length : (b : Bool) (t : List ℕ) → length (underscoredIf b t) ≡ length t
+underscoredIf-length b [] = rw (underscoredIf-nil b) refl
+underscoredIf-length b (x ∷ t) = rw (underscoredIf-cons b x t) (ap suc (underscoredIf-length b t))
 
-pub asked-drop : (b : Bool) (k : ℕ) (t : List ℕ) → asked b (drop k t) ≡ drop k (asked b t)
-asked-drop b zero t = refl
-asked-drop b (suc k) [] = rw (asked-nil b) refl
-asked-drop b (suc k) (x ∷ t) = rw (asked-cons b x t) (asked-drop b k t)
+pub underscoredIf-drop : (b : Bool) (k : ℕ) (t : List ℕ) → underscoredIf b (drop k t) ≡ drop k (underscoredIf b t)
+underscoredIf-drop b zero t = refl
+underscoredIf-drop b (suc k) [] = rw (underscoredIf-nil b) refl
+underscoredIf-drop b (suc k) (x ∷ t) = rw (underscoredIf-cons b x t) (underscoredIf-drop b k t)
 
-pub asked-take : (b : Bool) (k : ℕ) (t : List ℕ) → asked b (take k t) ≡ take k (asked b t)
-asked-take b zero t = asked-nil b
-asked-take b (suc k) [] = rw (asked-nil b) refl
-asked-take b (suc k) (x ∷ t) = rw (asked-cons b x t, asked-cons b x (take k t)) (ap (λ z. made b x ∷ z) (asked-take b k t))
+pub underscoredIf-take : (b : Bool) (k : ℕ) (t : List ℕ) → underscoredIf b (take k t) ≡ take k (underscoredIf b t)
+underscoredIf-take b zero t = underscoredIf-nil b
+underscoredIf-take b (suc k) [] = rw (underscoredIf-nil b) refl
+underscoredIf-take b (suc k) (x ∷ t) = rw (underscoredIf-cons b x t, underscoredIf-cons b x (take k t)) (ap (λ z. underscoreIf b x ∷ z) (underscoredIf-take b k t))
 
-pub asked-slice : (b : Bool) (p q : ℕ) (t : List ℕ) → asked b (slice p q t) ≡ slice p q (asked b t)
-asked-slice b p q t = asked-take b (q - p) (drop p t) ∙ ap (take (q - p)) (asked-drop b p t)
+pub underscoredIf-slice : (b : Bool) (p q : ℕ) (t : List ℕ) → underscoredIf b (slice p q t) ≡ slice p q (underscoredIf b t)
+underscoredIf-slice b p q t = underscoredIf-take b (q - p) (drop p t) ∙ ap (take (q - p)) (underscoredIf-drop b p t)
 
-pub asked-getD : (b : Bool) (t : List ℕ) (i : ℕ) → i < length t → getD (asked b t) i 0 ≡ made b (getD t i 0)
-asked-getD b [] i h = absurd (omega arith)
-asked-getD b (x ∷ t) zero h = rw (asked-cons b x t) refl
-asked-getD b (x ∷ t) (suc i) h = rw (asked-cons b x t) (asked-getD b t i (omega arith))
+pub underscoredIf-getD : (b : Bool) (t : List ℕ) (i : ℕ) → i < length t → getD (underscoredIf b t) i 0 ≡ underscoreIf b (getD t i 0)
+underscoredIf-getD b [] i h = absurd (omega arith)
+underscoredIf-getD b (x ∷ t) zero h = rw (underscoredIf-cons b x t) refl
+underscoredIf-getD b (x ∷ t) (suc i) h = rw (underscoredIf-cons b x t) (underscoredIf-getD b t i (omega arith))
 
 -- What `made` computes.
-pub made-dash : (b : Bool) (x : ℕ) → b ≡ true → x ≡ 45 → 95 ≡ made b x
-unfolding made the
-made-dash true x e h = rw (h, made) refl
-made-dash false x e h = absurd (false≢true e)
+pub underscoreIf-dash : (b : Bool) (x : ℕ) → b ≡ true → x ≡ 45 → 95 ≡ underscoreIf b x
+unfolding underscoreIf the
+underscoreIf-dash true x e h = rw (h, underscoreIf) refl
+underscoreIf-dash false x e h = absurd (false≢true e)
 
-pub made-other : (b : Bool) (x : ℕ) → (x ≡ 45 → ⊥) → x ≡ made b x
-unfolding made the
-made-other true x h = rw (ne-eqb x 45 h, made) refl
-made-other false x h = refl
+pub underscoreIf-other : (b : Bool) (x : ℕ) → (x ≡ 45 → ⊥) → x ≡ underscoreIf b x
+unfolding underscoreIf the
+underscoreIf-other true x h = rw (ne-eqb x 45 h, underscoreIf) refl
+underscoreIf-other false x h = refl
 
-pub made-plain : (b : Bool) (x : ℕ) → b ≡ false → x ≡ made b x
-unfolding made
-made-plain true x e = absurd (true≢false e)
-made-plain false x e = refl
+pub underscoreIf-plain : (b : Bool) (x : ℕ) → b ≡ false → x ≡ underscoreIf b x
+unfolding underscoreIf
+underscoreIf-plain true x e = absurd (true≢false e)
+underscoreIf-plain false x e = refl
 
 -- A `.` stays, and nothing else is made one.
-made-dot-at : (x : ℕ) (c : Bool) → the "-" x ≡ c → but "." (made true x) ≡ but "." x
-unfolding made but the
-made-dot-at x true e = rw (e, made) (let z : x ≡ 45 = eqb-true x 45 e in rw z refl)
-made-dot-at x false e = rw (e, made) refl
+underscoreIf-dot-at : (x : ℕ) (c : Bool) → the "-" x ≡ c → but "." (underscoreIf true x) ≡ but "." x
+unfolding underscoreIf but the
+underscoreIf-dot-at x true e = rw (e, underscoreIf) (let z : x ≡ 45 = eqb-true x 45 e in rw z refl)
+underscoreIf-dot-at x false e = rw (e, underscoreIf) refl
 
-pub made-dot : (b : Bool) (x : ℕ) → but "." (made b x) ≡ but "." x
-unfolding made
-made-dot true x = made-dot-at x (the "-" x) refl
-made-dot false x = refl
+pub underscoreIf-dot : (b : Bool) (x : ℕ) → but "." (underscoreIf b x) ≡ but "." x
+unfolding underscoreIf
+underscoreIf-dot true x = underscoreIf-dot-at x (the "-" x) refl
+underscoreIf-dot false x = refl
 
-pub asked-dot : (b : Bool) (t : List ℕ) → all (but ".") (asked b t) ≡ all (but ".") t
+pub underscoredIf-dot : (b : Bool) (t : List ℕ) → all (but ".") (underscoredIf b t) ≡ all (but ".") t
 unfolding all
-asked-dot b [] = rw (asked-nil b) refl
-asked-dot b (x ∷ t) = rw (asked-cons b x t, made-dot b x, asked-dot b t) refl
+underscoredIf-dot b [] = rw (underscoredIf-nil b) refl
+underscoredIf-dot b (x ∷ t) = rw (underscoredIf-cons b x t, underscoreIf-dot b x, underscoredIf-dot b t) refl
 
 -- 0 less, 1 equal, 2 greater.
 unfoldable pub orderOf : List ℕ → List ℕ → ℕ
@@ -153,31 +153,31 @@ pub ordering-start : (a b : List ℕ) → Ordering a b 0
 ordering-start a b = record { left = omega arith; right = omega arith; same = refl }
 
 -- b is what t is as it is asked for.
-module _ {a : List ℕ} (t : List ℕ) (f : Bool) {i : ℕ} (s : Ordering a (asked f t) i) where
-  pub ordering-over : i < length a → length t ≤ i → 2 ≡ orderOf a (asked f t)
+module _ {a : List ℕ} (t : List ℕ) (f : Bool) {i : ℕ} (s : Ordering a (underscoredIf f t) i) where
+  pub ordering-over : i < length a → length t ≤ i → 2 ≡ orderOf a (underscoredIf f t)
   unfolding orderOf
-  ordering-over h g = sym (s .same ∙ rw (drop-cons a i 0, drop-of-length-le (asked f t) {i = i} (omega (arith, asked-length f t))) refl)
+  ordering-over h g = sym (s .same ∙ rw (drop-cons a i 0, drop-of-length-le (underscoredIf f t) {i = i} (omega (arith, underscoredIf-length f t))) refl)
 
-  pub ordering-under : length a ≤ i → i < length t → 0 ≡ orderOf a (asked f t)
+  pub ordering-under : length a ≤ i → i < length t → 0 ≡ orderOf a (underscoredIf f t)
   unfolding orderOf
-  ordering-under g h = sym (s .same ∙ rw (drop-cons (asked f t) i 0 (omega (arith, asked-length f t)), drop-of-length-le a g) refl)
+  ordering-under g h = sym (s .same ∙ rw (drop-cons (underscoredIf f t) i 0 (omega (arith, underscoredIf-length f t)), drop-of-length-le a g) refl)
 
-  pub ordering-end : length a ≤ i → length t ≤ i → 1 ≡ orderOf a (asked f t)
+  pub ordering-end : length a ≤ i → length t ≤ i → 1 ≡ orderOf a (underscoredIf f t)
   unfolding orderOf
-  ordering-end g h = sym (s .same ∙ rw (drop-of-length-le a g, drop-of-length-le (asked f t) {i = i} (omega (arith, asked-length f t))) refl)
+  ordering-end g h = sym (s .same ∙ rw (drop-of-length-le a g, drop-of-length-le (underscoredIf f t) {i = i} (omega (arith, underscoredIf-length f t))) refl)
 
-  module _ (g : i < length a) (h : i < length t) {y : ℕ} (e : y ≡ made f (getD t i 0)) where
-    opened : orderOf a (asked f t) ≡ orderOf (getD a i 0 ∷ drop (suc i) a) (y ∷ drop (suc i) (asked f t))
-    opened = s .same ∙ rw (drop-cons a i 0, drop-cons (asked f t) i 0 (omega (arith, asked-length f t)), asked-getD f t i h, e) refl
+  module _ (g : i < length a) (h : i < length t) {y : ℕ} (e : y ≡ underscoreIf f (getD t i 0)) where
+    opened : orderOf a (underscoredIf f t) ≡ orderOf (getD a i 0 ∷ drop (suc i) a) (y ∷ drop (suc i) (underscoredIf f t))
+    opened = s .same ∙ rw (drop-cons a i 0, drop-cons (underscoredIf f t) i 0 (omega (arith, underscoredIf-length f t)), underscoredIf-getD f t i h, e) refl
 
-    pub ordering-less : getD a i 0 < y → 0 ≡ orderOf a (asked f t)
+    pub ordering-less : getD a i 0 < y → 0 ≡ orderOf a (underscoredIf f t)
     unfolding orderOf
     ordering-less k = sym (opened ∙ rw (lt-ltb _ _ k, orderOf) refl)
 
-    pub ordering-more : y < getD a i 0 → 2 ≡ orderOf a (asked f t)
+    pub ordering-more : y < getD a i 0 → 2 ≡ orderOf a (underscoredIf f t)
     unfolding orderOf
     ordering-more k = sym (opened ∙ rw (le-ltb (getD a i 0) y (omega arith), lt-ltb _ _ k, orderOf) refl)
 
-    pub ordering-on : y ≤ getD a i 0 → getD a i 0 ≤ y → Ordering a (asked f t) (i + 1)
+    pub ordering-on : y ≤ getD a i 0 → getD a i 0 ≤ y → Ordering a (underscoredIf f t) (i + 1)
     unfolding orderOf
-    ordering-on k l = rw add-one (record { left = g; right = omega (arith, asked-length f t); same = opened ∙ rw (le-ltb _ _ k, le-ltb _ _ l, orderOf) refl })
+    ordering-on k l = rw add-one (record { left = g; right = omega (arith, underscoredIf-length f t); same = opened ∙ rw (le-ltb _ _ k, le-ltb _ _ l, orderOf) refl })

@@ -21,7 +21,7 @@ use Rattle.rules.specs.Laws.Sheet.{count-le}
 use Rattle.rules.specs.Sheet.{Value, text, nothing, dictionary, Records, end, rec, encode, count, word16Bytes, fieldBytes, fieldMask, valueBytes, valueMask, set}
 use Rattle.sheet.specs.Parts.{Part, slice, part-slice, length-slice}
 use Rattle.sheet.specs.Moves.{slice-take, slice-above, take-stored}
-use Rattle.sheet.specs.Order.{made, asked, asked-length, asked-getD}
+use Rattle.sheet.specs.Order.{underscoreIf, underscoredIf, underscoredIf-length, underscoredIf-getD}
 use Rattle.sheet.specs.Find.{Gives}
 use Rattle.sheet.specs.Place.{HasRecords, Between, between-start, Placed, one, one-rec}
 use Rattle.sheet.specs.Mark.{Marked, HasMark, marked-start}
@@ -44,11 +44,11 @@ unfoldable pub numbered : ℕ → Bool
 numbered bit = eqb bit 2 || eqb bit 4
 
 unfoldable pub number : ℕ → ℕ → List ℕ
-number bit size = cond (numbered bit) (word16Bytes size) []
+number bit count = cond (numbered bit) (word16Bytes count) []
 
 -- A record of the name up to its value's own bytes, and how many that are.
 unfoldable pub opening : List ℕ → ℕ → ℕ → List ℕ
-opening n bit size = (fieldMask 1 n + bit) ∷ (fieldBytes n ++ number bit size)
+opening n bit count = (fieldMask 1 n + bit) ∷ (fieldBytes n ++ number bit count)
 
 unfoldable pub openLen : ℕ → ℕ → ℕ
 openLen n bit = 1 + wide n + cond (numbered bit) 2 0
@@ -59,10 +59,10 @@ pub record IsBit (bit : ℕ) : Type 0 where
   pub is : valueMask v ≡ bit
 
 -- The value v has this bit, this number and these bytes of its own.
-pub record IsSource (v : Value) (bit size : ℕ) (own : List ℕ) : Type 0 where
+pub record IsSource (v : Value) (bit count : ℕ) (own : List ℕ) : Type 0 where
   pub sort : valueMask v ≡ bit
-  pub bytes : valueBytes v ≡ number bit size ++ own
-  pub small : size ≤ length own
+  pub bytes : valueBytes v ≡ number bit count ++ own
+  pub small : count ≤ length own
 
 -- A place for a record of the name with so many bytes of its own, in a sheet that may have l bytes, searched for from `last` on.
 pub record Fitting (s : List ℕ) (last l : ℕ) (name : List ℕ) (bit len : ℕ) (p : Room) : Type 0 where
@@ -74,13 +74,13 @@ pub record Fitting (s : List ℕ) (last l : ℕ) (name : List ℕ) (bit len : �
   pub small : len ≤ l
 
 unfoldable pub Plans : List ℕ → ℕ → ℕ → List ℕ → ℕ → ℕ → Plan → Type 0
-Plans s last l name bit len TooLong = (r : Records) (v : Value) (size : ℕ) (own : List ℕ) → Marked s r last → IsSource v bit size own → length own ≡ len → l < length (encode (set r name v))
+Plans s last l name bit len TooLong = (r : Records) (v : Value) (count : ℕ) (own : List ℕ) → Marked s r last → IsSource v bit count own → length own ≡ len → l < length (encode (set r name v))
 Plans s last l name bit len (Fits p) = Fitting s last l name bit len p
 
 -- There is such a value, and a found one.
-pub record HasSource (bit size : ℕ) (own : List ℕ) : Type 0 where
+pub record HasSource (bit count : ℕ) (own : List ℕ) : Type 0 where
   pub v : Value
-  pub is : IsSource v bit size own
+  pub is : IsSource v bit count own
 
 pub record IsThere (s : List ℕ) (f : Found) : Type 0 where
   pub v : Value
@@ -90,13 +90,13 @@ pub record IsThere (s : List ℕ) (f : Found) : Type 0 where
 pub record Sources (s : List ℕ) (v : Value) (o : Source) : Type 0 where
   pub on : o .from ≤ o .to
   pub inside : o .to ≤ length s
-  pub is : IsSource v (o .bit) (o .size) (slice (o .from) (o .to) s)
+  pub is : IsSource v (o .bit) (o .count) (slice (o .from) (o .to) s)
 
 -- There is room for an opening.
-pub record Opens (b : List ℕ) (at n bit size : ℕ) : Type 0 where
+pub record Opens (b : List ℕ) (at n bit count : ℕ) : Type 0 where
   pub sort : IsBit bit
   pub short : n ≤ 65535
-  pub small : size ≤ 65535
+  pub small : count ≤ 65535
   pub room : at + openLen n bit ≤ length b
 
 -- The map byte of a name of n bytes.
@@ -127,7 +127,7 @@ pub record BindsAt (b : List ℕ) (n last limit : ℕ) (name : List ℕ) (v : Va
   pub between : (r : Records) → Marked (take n b) r last → Between (set r name v) (o .at)
 
 unfoldable pub Binds : List ℕ → ℕ → ℕ → List ℕ → ℕ → ℕ → List ℕ → List ℕ → Bound → Type 0
-Binds b n limit name bit size own c o = (v : Value) → IsSource v bit size own → BindsTo b n limit name v c o
+Binds b n limit name bit count own c o = (v : Value) → IsSource v bit count own → BindsTo b n limit name v c o
 
 -- LAWS.
 pub binds-start : {b : List ℕ} {n limit : ℕ} {name : List ℕ} {v : Value} {c : List ℕ} {o : Put} → BindsAt b n 0 limit name v c o → BindsTo b n limit name v c (o .bound)
@@ -156,17 +156,17 @@ unfolding fieldBytes word16Bytes
 field-length [] = sym (wide-zero 0 refl)
 field-length (x ∷ xs) = omega (arith, wide-some (suc (length xs)) (λ e. omega arith))
 
-number-length : (bit size : ℕ) → length (number bit size) ≡ cond (numbered bit) 2 0
+number-length : (bit count : ℕ) → length (number bit count) ≡ cond (numbered bit) 2 0
 unfolding number word16Bytes
-number-length bit size = go (numbered bit)
+number-length bit count = go (numbered bit)
   where
-    go : (c : Bool) → length (cond c (size % 256 ∷ size / 256 ∷ []) []) ≡ cond c 2 0
+    go : (c : Bool) → length (cond c (count % 256 ∷ count / 256 ∷ []) []) ≡ cond c 2 0
     go true = refl
     go false = refl
 
-pub opening-length : (n : List ℕ) (bit size : ℕ) → length (opening n bit size) ≡ openLen (length n) bit
+pub opening-length : (n : List ℕ) (bit count : ℕ) → length (opening n bit count) ≡ openLen (length n) bit
 unfolding opening openLen
-opening-length n bit size = omega (arith, length-append (fieldBytes n) (number bit size), field-length n, number-length bit size)
+opening-length n bit count = omega (arith, length-append (fieldBytes n) (number bit count), field-length n, number-length bit count)
 
 pub open-le : (n bit : ℕ) → openLen n bit ≤ n + 5
 unfolding openLen
@@ -205,16 +205,16 @@ module _ {bit : ℕ} (b : IsBit bit) where
     open-numbered e = rw (is-numbered e) (omega arith)
 
 -- One record is its opening and the value's own bytes.
-one-opening : (n : List ℕ) (v : Value) (bit size : ℕ) (own : List ℕ) → IsSource v bit size own → one n v ≡ opening n bit size ++ own
+one-opening : (n : List ℕ) (v : Value) (bit count : ℕ) (own : List ℕ) → IsSource v bit count own → one n v ≡ opening n bit count ++ own
 unfolding one opening
-one-opening n v bit size own s = rw (s .sort, s .bytes) (simp append-assoc)
+one-opening n v bit count own s = rw (s .sort, s .bytes) (simp append-assoc)
 
 -- How long the sheet becomes.
-module _ {s : List ℕ} {r : Records} {name : List ℕ} {i j : ℕ} (p : Placed s r name i j) (v : Value) {bit size : ℕ} {own : List ℕ} (w : IsSource v bit size own) where
+module _ {s : List ℕ} {r : Records} {name : List ℕ} {i j : ℕ} (p : Placed s r name i j) (v : Value) {bit count : ℕ} {own : List ℕ} (w : IsSource v bit count own) where
   pub set-length : length (encode (set r name v)) ≡ i + openLen (length name) bit + length own + (length s - j)
   set-length =
-      rw (p .is v, one-opening name v bit size own w)
-      (simp length-append (omega (arith, opening-length name bit size, length-drop j s, length-take-le i s (omega (arith, p .on, p .inside)))))
+      rw (p .is v, one-opening name v bit count own w)
+      (simp length-append (omega (arith, opening-length name bit count, length-drop j s, length-take-le i s (omega (arith, p .on, p .inside)))))
 
 -- A binding is no shorter than its record.
 set-size-at : (n m : List ℕ) (v w : Value) (r : Records) (c d : Bool) → less n m ≡ c → less m n ≡ d → length (one n v) ≤ length (encode (set r n v)) → length (one n v) ≤ length (encode (set (rec m w r) n v))
@@ -229,40 +229,40 @@ set-size end n v = rw (one-rec n v end, length-append) (omega arith)
 set-size (rec m w r) n v = set-size-at n m v w r (less n m) (less m n) refl refl (set-size r n v)
 
 -- What `find_room` answers.
-pub plans-long : (s : List ℕ) (last l : ℕ) (b : Bool) (name : List ℕ) (bit len : ℕ) → (ltb l (length name) || ltb l len) ≡ true → Plans s last l (asked b name) bit len TooLong
+pub plans-long : (s : List ℕ) (last l : ℕ) (b : Bool) (name : List ℕ) (bit len : ℕ) → (ltb l (length name) || ltb l len) ≡ true → Plans s last l (underscoredIf b name) bit len TooLong
 unfolding Plans
-plans-long s last l b name bit len h r v size own e w k =
-    let z = set-size r (asked b name) v in
-    let y : length (one (asked b name) v) ≡ openLen (length name) bit + len = ap length (one-opening (asked b name) v bit size own w) ∙ length-append (opening (asked b name) bit size) own ∙ omega (arith, opening-length (asked b name) bit size, k, ap (λ x. openLen x bit) (asked-length b name)) in
+plans-long s last l b name bit len h r v count own e w k =
+    let z = set-size r (underscoredIf b name) v in
+    let y : length (one (underscoredIf b name) v) ≡ openLen (length name) bit + len = ap length (one-opening (underscoredIf b name) v bit count own w) ∙ length-append (opening (underscoredIf b name) bit count) own ∙ omega (arith, opening-length (underscoredIf b name) bit count, k, ap (λ x. openLen x bit) (underscoredIf-length b name)) in
     or-elim (ltb l (length name)) (ltb l len) h (λ g. omega (arith, ltb-true l (length name) g, open-ge (length name) bit)) (λ g. omega (arith, ltb-true l len g))
 
 module _ (s : List ℕ) (last l : ℕ) (b : Bool) (name : List ℕ) (bit len : ℕ) {i j h m : ℕ}
-    (p : (r : Records) → Marked s r last → Placed s r (asked b name) i j) (e : h ≡ openLen (length name) bit) (f : m ≡ i + h + len + (length s - j)) where
-  pub plans-over : l < m → Plans s last l (asked b name) bit len TooLong
+    (p : (r : Records) → Marked s r last → Placed s r (underscoredIf b name) i j) (e : h ≡ openLen (length name) bit) (f : m ≡ i + h + len + (length s - j)) where
+  pub plans-over : l < m → Plans s last l (underscoredIf b name) bit len TooLong
   unfolding Plans
-  plans-over g r v size own q w k = omega (arith, set-length (p r q) v w, ap (λ x. openLen x bit) (asked-length b name))
+  plans-over g r v count own q w k = omega (arith, set-length (p r q) v w, ap (λ x. openLen x bit) (underscoredIf-length b name))
 
-  pub plans-fits : m ≤ l → (ltb l (length name) || ltb l len) ≡ false → Plans s last l (asked b name) bit len (Fits (record { from = i; to = j; head = h; total = m }))
+  pub plans-fits : m ≤ l → (ltb l (length name) || ltb l len) ≡ false → Plans s last l (underscoredIf b name) bit len (Fits (record { from = i; to = j; head = h; total = m }))
   unfolding Plans
   plans-fits g z = record {
     placed = p;
-    head = e ∙ ap (λ x. openLen x bit) (sym (asked-length b name));
+    head = e ∙ ap (λ x. openLen x bit) (sym (underscoredIf-length b name));
     total = f;
     fits = g;
-    short = omega (arith, asked-length b name, ltb-false l (length name) (or-false-l (ltb l (length name)) (ltb l len) z));
+    short = omega (arith, underscoredIf-length b name, ltb-false l (length name) (or-false-l (ltb l (length name)) (ltb l len) z));
     small = ltb-false l len (or-false-r (ltb l (length name)) (ltb l len) z);
   }
 
 -- WRITING.
 -- One byte more of a name.
-pub name-step : (b : List ℕ) (at i : ℕ) (f : Bool) (t : List ℕ) {x : ℕ} → i < length t → x ≡ made f (getD t i 0) → sets (put b (at + i) x) (at + (i + 1)) (drop (i + 1) (asked f t)) ≡ sets b (at + i) (drop i (asked f t))
+pub name-step : (b : List ℕ) (at i : ℕ) (f : Bool) (t : List ℕ) {x : ℕ} → i < length t → x ≡ underscoreIf f (getD t i 0) → sets (put b (at + i) x) (at + (i + 1)) (drop (i + 1) (underscoredIf f t)) ≡ sets b (at + i) (drop i (underscoredIf f t))
 name-step b at i f t h e =
     let u : at + (i + 1) ≡ suc (at + i) = omega arith in
-    let v : drop i (asked f t) ≡ made f (getD t i 0) ∷ drop (suc i) (asked f t) = drop-cons (asked f t) i 0 (omega (arith, asked-length f t)) ∙ ap (λ z. z ∷ drop (suc i) (asked f t)) (asked-getD f t i h) in
+    let v : drop i (underscoredIf f t) ≡ underscoreIf f (getD t i 0) ∷ drop (suc i) (underscoredIf f t) = drop-cons (underscoredIf f t) i 0 (omega (arith, underscoredIf-length f t)) ∙ ap (λ z. z ∷ drop (suc i) (underscoredIf f t)) (underscoredIf-getD f t i h) in
     rw (u, add-one, v, e) refl
 
-pub name-end : (b : List ℕ) (at i : ℕ) (f : Bool) (t : List ℕ) → length t ≤ i → sets b at (drop i (asked f t)) ≡ b
-name-end b at i f t h = rw (drop-of-length-le (asked f t) {i = i} (omega (arith, asked-length f t))) refl
+pub name-end : (b : List ℕ) (at i : ℕ) (f : Bool) (t : List ℕ) → length t ≤ i → sets b at (drop i (underscoredIf f t)) ≡ b
+name-end b at i f t h = rw (drop-of-length-le (underscoredIf f t) {i = i} (omega (arith, underscoredIf-length f t))) refl
 
 field-empty : (t : List ℕ) → length t ≡ 0 → fieldBytes t ≡ []
 unfolding fieldBytes
@@ -274,14 +274,14 @@ unfolding fieldBytes
 field-full [] h = absurd (h refl)
 field-full (x ∷ xs) h = refl
 
-pub field-none : (b : List ℕ) (at : ℕ) (f : Bool) (t : List ℕ) → length t ≡ 0 → b ≡ sets b at (fieldBytes (asked f t))
-field-none b at f t h = rw (field-empty (asked f t) (asked-length f t ∙ h)) refl
+pub field-none : (b : List ℕ) (at : ℕ) (f : Bool) (t : List ℕ) → length t ≡ 0 → b ≡ sets b at (fieldBytes (underscoredIf f t))
+field-none b at f t h = rw (field-empty (underscoredIf f t) (underscoredIf-length f t ∙ h)) refl
 
-pub field-some : (b : List ℕ) (at : ℕ) (f : Bool) (t : List ℕ) {c d : List ℕ} → (length t ≡ 0 → ⊥) → c ≡ sets b at (word16Bytes (length t)) → d ≡ sets c (at + 2) (asked f t) → d ≡ sets b at (fieldBytes (asked f t))
+pub field-some : (b : List ℕ) (at : ℕ) (f : Bool) (t : List ℕ) {c d : List ℕ} → (length t ≡ 0 → ⊥) → c ≡ sets b at (word16Bytes (length t)) → d ≡ sets c (at + 2) (underscoredIf f t) → d ≡ sets b at (fieldBytes (underscoredIf f t))
 unfolding word16Bytes
 field-some b at f t {c} {d} h p q =
-    let e : fieldBytes (asked f t) ≡ word16Bytes (length t) ++ asked f t = field-full (asked f t) (λ z. h (sym (asked-length f t) ∙ z)) ∙ ap (λ z. word16Bytes z ++ asked f t) (asked-length f t) in
-    q ∙ ap (λ z. sets z (at + 2) (asked f t)) p ∙ sets-append b at (word16Bytes (length t)) (asked f t) ∙ ap (sets b at) (sym e)
+    let e : fieldBytes (underscoredIf f t) ≡ word16Bytes (length t) ++ underscoredIf f t = field-full (underscoredIf f t) (λ z. h (sym (underscoredIf-length f t) ∙ z)) ∙ ap (λ z. word16Bytes z ++ underscoredIf f t) (underscoredIf-length f t) in
+    q ∙ ap (λ z. sets z (at + 2) (underscoredIf f t)) p ∙ sets-append b at (word16Bytes (length t)) (underscoredIf f t) ∙ ap (sets b at) (sym e)
 
 pub map-plain : (n bit : ℕ) → n ≡ 0 → bit ≡ mapNo n bit
 unfolding mapNo
@@ -307,20 +307,20 @@ unfolding mapNo fieldMask
 map-no [] bit = refl
 map-no (x ∷ xs) bit = rw (ne-eqb (suc (length xs)) 0 (λ e. omega arith)) refl
 
-module _ (b : List ℕ) (at : ℕ) (f : Bool) (t : List ℕ) {bit : ℕ} (g : IsBit bit) (size : ℕ) {m : ℕ} {c : List ℕ} (e : m ≡ mapNo (length t) bit) (p : c ≡ sets (put b at m) (at + 1) (fieldBytes (asked f t))) where
-  begun : c ≡ sets b at ((fieldMask 1 (asked f t) + bit) ∷ fieldBytes (asked f t))
-  begun = p ∙ ap (λ z. sets (put b at z) (at + 1) (fieldBytes (asked f t))) (e ∙ ap (λ z. mapNo z bit) (sym (asked-length f t)) ∙ map-no (asked f t) bit) ∙ rw add-one refl
+module _ (b : List ℕ) (at : ℕ) (f : Bool) (t : List ℕ) {bit : ℕ} (g : IsBit bit) (count : ℕ) {m : ℕ} {c : List ℕ} (e : m ≡ mapNo (length t) bit) (p : c ≡ sets (put b at m) (at + 1) (fieldBytes (underscoredIf f t))) where
+  begun : c ≡ sets b at ((fieldMask 1 (underscoredIf f t) + bit) ∷ fieldBytes (underscoredIf f t))
+  begun = p ∙ ap (λ z. sets (put b at z) (at + 1) (fieldBytes (underscoredIf f t))) (e ∙ ap (λ z. mapNo z bit) (sym (underscoredIf-length f t)) ∙ map-no (underscoredIf f t) bit) ∙ rw add-one refl
 
-  pub opening-plain : bitAnd bit 6 ≡ 0 → c ≡ sets b at (opening (asked f t) bit size)
+  pub opening-plain : bitAnd bit 6 ≡ 0 → c ≡ sets b at (opening (underscoredIf f t) bit count)
   unfolding opening number
-  opening-plain h = begun ∙ rw (unnumbered g h, append-nil (fieldBytes (asked f t))) refl
+  opening-plain h = begun ∙ rw (unnumbered g h, append-nil (fieldBytes (underscoredIf f t))) refl
 
-  pub opening-numbered : (bitAnd bit 6 ≡ 0 → ⊥) → {k : ℕ} {d : List ℕ} → k ≡ wide (length t) → d ≡ sets c (at + 1 + k) (word16Bytes size) → d ≡ sets b at (opening (asked f t) bit size)
+  pub opening-numbered : (bitAnd bit 6 ≡ 0 → ⊥) → {k : ℕ} {d : List ℕ} → k ≡ wide (length t) → d ≡ sets c (at + 1 + k) (word16Bytes count) → d ≡ sets b at (opening (underscoredIf f t) bit count)
   unfolding opening number
   opening-numbered h {k} {d} w q =
-      let x = (fieldMask 1 (asked f t) + bit) ∷ fieldBytes (asked f t) in
-      let l : at + 1 + k ≡ at + length x = omega (arith, field-length (asked f t), ap wide (asked-length f t)) in
-      q ∙ ap (λ z. sets c z (word16Bytes size)) l ∙ ap (λ z. sets z (at + length x) (word16Bytes size)) begun ∙ sets-append b at x (word16Bytes size) ∙ rw (is-numbered g h) refl
+      let x = (fieldMask 1 (underscoredIf f t) + bit) ∷ fieldBytes (underscoredIf f t) in
+      let l : at + 1 + k ≡ at + length x = omega (arith, field-length (underscoredIf f t), ap wide (underscoredIf-length f t)) in
+      q ∙ ap (λ z. sets c z (word16Bytes count)) l ∙ ap (λ z. sets z (at + length x) (word16Bytes count)) begun ∙ sets-append b at x (word16Bytes count) ∙ rw (is-numbered g h) refl
 
 -- What a lookup found.
 pub text-empty : (t : List ℕ) → length t ≡ 0 → IsSource (text t) 0 0 t
@@ -345,7 +345,7 @@ some-eq : (v w : Value) → some v ≡ some w → v ≡ w
 some-eq v w h = cc
 
 -- What `source_of` answers.
-pub source-none : (s : List ℕ) (v : Value) (f : Found) → ((a b : ℕ) → f ≡ Text a b → ⊥) → ((a b n : ℕ) → f ≡ Dictionary a b n → ⊥) → Gives s (some v) f → Sources s v (record { bit = 8; from = 0; to = 0; size = 0 })
+pub source-none : (s : List ℕ) (v : Value) (f : Found) → ((a b : ℕ) → f ≡ Text a b → ⊥) → ((a b n : ℕ) → f ≡ Dictionary a b n → ⊥) → Gives s (some v) f → Sources s v (record { bit = 8; from = 0; to = 0; count = 0 })
 unfolding Gives
 source-none s v Missing h k g = let z : _≡_ {A = ℕ} 0 1 = cc g in absurd (omega arith)
 source-none s v None h k g = record { on = omega arith; inside = omega arith; is = rw (some-eq v nothing g) none-source }
@@ -357,20 +357,20 @@ module _ (s : List ℕ) (v : Value) {f : Found} (w : Gives s (some v) f) where
     there : Gives s (some v) (Text a b)
     there = rw h at w
 
-    pub source-blank : b ≤ a → Sources s v (record { bit = 0; from = a; to = b; size = 0 })
+    pub source-blank : b ≤ a → Sources s v (record { bit = 0; from = a; to = b; count = 0 })
     unfolding Gives
     source-blank k =
         let p = there .2 in
         record { on = omega (arith, p .ends); inside = p .inside; is = rw (some-eq v (text (there .0)) (there .1), part-slice p) (text-empty (there .0) (omega (arith, p .ends))) }
 
-    pub source-text : a < b → Sources s v (record { bit = 2; from = a; to = b; size = b - a })
+    pub source-text : a < b → Sources s v (record { bit = 2; from = a; to = b; count = b - a })
     unfolding Gives
     source-text k =
         let p = there .2 in
         let l : b - a ≡ length (there .0) = omega (arith, p .ends) in
         record { on = omega arith; inside = p .inside; is = rw (some-eq v (text (there .0)) (there .1), part-slice p, l) (text-full (there .0) (λ z. omega (arith, p .ends))) }
 
-  pub source-dictionary : {a b n : ℕ} → f ≡ Dictionary a b n → Sources s v (record { bit = 4; from = a; to = b; size = n })
+  pub source-dictionary : {a b n : ℕ} → f ≡ Dictionary a b n → Sources s v (record { bit = 4; from = a; to = b; count = n })
   unfolding Gives
   source-dictionary {a} {b} {n} h =
       let g : Gives s (some v) (Dictionary a b n) = rw h at w in
@@ -410,59 +410,59 @@ module _ {b : List ℕ} {n last l : ℕ} (g : Bindable b n l) (mark : HasMark (t
     own = f .small;
   }
 
-  module _ (size : ℕ) (own : List ℕ) (k : length own ≡ len) where
-    total-is : p .from + length (opening name bit size ++ (own ++ slice (p .to) n b)) ≡ p .total
+  module _ (count : ℕ) (own : List ℕ) (k : length own ≡ len) where
+    total-is : p .from + length (opening name bit count ++ (own ++ slice (p .to) n b)) ≡ p .total
     total-is =
         let z = length-slice (p .to) n b (g .inside) in
-        rw (length-append, length-append) (omega (arith, z, opening-length name bit size, f .total, f .head, k, sheet-long))
+        rw (length-append, length-append) (omega (arith, z, opening-length name bit count, f .total, f .head, k, sheet-long))
 
-    pub bound-in : (v : Value) → IsSource v bit size own → (c : List ℕ) → c ≡ sets b (p .from) (opening name bit size ++ (own ++ slice (p .to) n b)) → BindsAt b n last l name v c (record { bound = Length (p .total); at = p .from })
+    pub bound-in : (v : Value) → IsSource v bit count own → (c : List ℕ) → c ≡ sets b (p .from) (opening name bit count ++ (own ++ slice (p .to) n b)) → BindsAt b n last l name v c (record { bound = Length (p .total); at = p .from })
     unfolding Leaves
     bound-in v w c e =
         record {
-          long = ap length e ∙ length-sets b (p .from) (opening name bit size ++ (own ++ slice (p .to) n b));
+          long = ap length e ∙ length-sets b (p .from) (opening name bit count ++ (own ++ slice (p .to) n b));
           leaves = λ r q.
               let d = f .placed r q in
               let t : drop (p .to) (take n b) ≡ slice (p .to) n b = drop-take (p .to) n b in
               let u : take (p .from) (take n b) ≡ take (p .from) b = take-take (p .from) n b (omega (arith, d .on, d .inside, sheet-long)) in
-              let x : encode (set r name v) ≡ take (p .from) b ++ (opening name bit size ++ (own ++ slice (p .to) n b)) = d .is v ∙ rw (u, t, one-opening name v bit size own w, append-assoc) refl in (
+              let x : encode (set r name v) ≡ take (p .from) b ++ (opening name bit count ++ (own ++ slice (p .to) n b)) = d .is v ∙ rw (u, t, one-opening name v bit count own w, append-assoc) refl in (
                 f .fits,
                 omega (arith, set-length d v w, f .total, f .head, k),
-                ap (take (p .total)) e ∙ take-stored b (opening name bit size ++ (own ++ slice (p .to) n b)) (p .from) (p .total) total-is (omega (arith, f .fits, g .room)) ∙ sym x,
+                ap (take (p .total)) e ∙ take-stored b (opening name bit count ++ (own ++ slice (p .to) n b)) (p .from) (p .total) total-is (omega (arith, f .fits, g .room)) ∙ sym x,
               );
           between = λ r q. f .placed r q .put v;
         }
 
-    pub bound-found : {d e : List ℕ} → d ≡ sets b (p .from + p .head) (own ++ slice (p .to) n b) → e ≡ sets d (p .from) (opening name bit size) →
-        e ≡ sets b (p .from) (opening name bit size ++ (own ++ slice (p .to) n b))
+    pub bound-found : {d e : List ℕ} → d ≡ sets b (p .from + p .head) (own ++ slice (p .to) n b) → e ≡ sets d (p .from) (opening name bit count) →
+        e ≡ sets b (p .from) (opening name bit count ++ (own ++ slice (p .to) n b))
     bound-found i z =
-        let l : p .head ≡ length (opening name bit size) = f .head ∙ sym (opening-length name bit size) in
-        z ∙ ap (λ w. sets w (p .from) (opening name bit size)) (i ∙ ap (λ w. sets b (p .from + w) (own ++ slice (p .to) n b)) l) ∙ sets-before b (p .from) (opening name bit size) (own ++ slice (p .to) n b)
+        let l : p .head ≡ length (opening name bit count) = f .head ∙ sym (opening-length name bit count) in
+        z ∙ ap (λ w. sets w (p .from) (opening name bit count)) (i ∙ ap (λ w. sets b (p .from + w) (own ++ slice (p .to) n b)) l) ∙ sets-before b (p .from) (opening name bit count) (own ++ slice (p .to) n b)
 
     -- The tail, the value's own bytes, the opening.
-    pub bound-slice : {c d e : List ℕ} → c ≡ sets b (p .from + p .head + len) (slice (p .to) n b) → d ≡ sets c (p .from + p .head) own → e ≡ sets d (p .from) (opening name bit size) →
-        e ≡ sets b (p .from) (opening name bit size ++ (own ++ slice (p .to) n b))
+    pub bound-slice : {c d e : List ℕ} → c ≡ sets b (p .from + p .head + len) (slice (p .to) n b) → d ≡ sets c (p .from + p .head) own → e ≡ sets d (p .from) (opening name bit count) →
+        e ≡ sets b (p .from) (opening name bit count ++ (own ++ slice (p .to) n b))
     bound-slice {c} {d} {e} x y z =
         let i : d ≡ sets b (p .from + p .head) (own ++ slice (p .to) n b) = y ∙ ap (λ w. sets w (p .from + p .head) own) (x ∙ ap (λ w. sets b (p .from + p .head + w) (slice (p .to) n b)) (sym k)) ∙ sets-before b (p .from + p .head) own (slice (p .to) n b) in
         bound-found i z
 
 -- By what `find_room` answers.
-module _ {b : List ℕ} {n last l : ℕ} (g : Bindable b n l) (mark : HasMark (take n b) last) (t : Bool) (name : List ℕ) (bit len : ℕ) {q : Plan} (f : Plans (take n b) last l (asked t name) bit len q) where
-  pub bound-over : q ≡ TooLong → {size : ℕ} {own : List ℕ} → length own ≡ len → (v : Value) → IsSource v bit size own → BindsAt b n last l (asked t name) v b (record { bound = Over; at = 0 })
+module _ {b : List ℕ} {n last l : ℕ} (g : Bindable b n l) (mark : HasMark (take n b) last) (t : Bool) (name : List ℕ) (bit len : ℕ) {q : Plan} (f : Plans (take n b) last l (underscoredIf t name) bit len q) where
+  pub bound-over : q ≡ TooLong → {count : ℕ} {own : List ℕ} → length own ≡ len → (v : Value) → IsSource v bit count own → BindsAt b n last l (underscoredIf t name) v b (record { bound = Over; at = 0 })
   unfolding Plans Leaves
   bound-over e k v w =
-      let z : Plans (take n b) last l (asked t name) bit len TooLong = rw e at f in
-      record { long = refl; leaves = λ r h. z r v _ _ h w k; between = λ r h. between-start (set r (asked t name) v) }
+      let z : Plans (take n b) last l (underscoredIf t name) bit len TooLong = rw e at f in
+      record { long = refl; leaves = λ r h. z r v _ _ h w k; between = λ r h. between-start (set r (underscoredIf t name) v) }
 
   module _ {p : Room} (e : q ≡ Fits p) where
-    fit : Fitting (take n b) last l (asked t name) bit len p
+    fit : Fitting (take n b) last l (underscoredIf t name) bit len p
     unfolding Plans
     fit = rw e at f
 
     pub fit-bounds : Bounds n l (length name) bit len p
-    fit-bounds = rw (asked-length t name) at (bounds g mark fit)
+    fit-bounds = rw (underscoredIf-length t name) at (bounds g mark fit)
 
-    pub opens-there : {c : List ℕ} {size : ℕ} → length c ≡ length b → {v : Value} {own : List ℕ} → IsSource v bit size own → length own ≡ len → Opens c (p .from) (length name) bit size
+    pub opens-there : {c : List ℕ} {count : ℕ} → length c ≡ length b → {v : Value} {own : List ℕ} → IsSource v bit count own → length own ≡ len → Opens c (p .from) (length name) bit count
     opens-there h {v} w k =
         let o = fit-bounds in
         record {
@@ -472,25 +472,25 @@ module _ {b : List ℕ} {n last l : ℕ} (g : Bindable b n l) (mark : HasMark (t
           room = omega (arith, o .sum, o .head, g .room);
         }
 
-    pub bound-value : (size : ℕ) (own : List ℕ) → length own ≡ len → (v : Value) → IsSource v bit size own → {c d x : List ℕ} →
-        c ≡ sets b (p .from + p .head + len) (slice (p .to) n b) → d ≡ sets c (p .from + p .head) own → x ≡ sets d (p .from) (opening (asked t name) bit size) → BindsAt b n last l (asked t name) v x (record { bound = Length (p .total); at = p .from })
-    bound-value size own k v w {x = x} i j h = bound-in g mark fit size own k v w x (bound-slice g mark fit size own k i j h)
+    pub bound-value : (count : ℕ) (own : List ℕ) → length own ≡ len → (v : Value) → IsSource v bit count own → {c d x : List ℕ} →
+        c ≡ sets b (p .from + p .head + len) (slice (p .to) n b) → d ≡ sets c (p .from + p .head) own → x ≡ sets d (p .from) (opening (underscoredIf t name) bit count) → BindsAt b n last l (underscoredIf t name) v x (record { bound = Length (p .total); at = p .from })
+    bound-value count own k v w {x = x} i j h = bound-in g mark fit count own k v w x (bound-slice g mark fit count own k i j h)
 
     -- The value's own bytes lie from a to c, behind the limit.
-    pub bound-behind : (size a c : ℕ) → l ≤ a → a ≤ c → c ≤ length b → c - a ≡ len → (v : Value) → IsSource v bit size (slice a c b) → {d e x : List ℕ} →
-        d ≡ sets b (p .from + p .head + len) (slice (p .to) n b) → e ≡ sets d (p .from + p .head) (slice a c d) → x ≡ sets e (p .from) (opening (asked t name) bit size) → BindsAt b n last l (asked t name) v x (record { bound = Length (p .total); at = p .from })
-    bound-behind size a c h o q k v w {d} {e} {x} i j y =
+    pub bound-behind : (count a c : ℕ) → l ≤ a → a ≤ c → c ≤ length b → c - a ≡ len → (v : Value) → IsSource v bit count (slice a c b) → {d e x : List ℕ} →
+        d ≡ sets b (p .from + p .head + len) (slice (p .to) n b) → e ≡ sets d (p .from + p .head) (slice a c d) → x ≡ sets e (p .from) (opening (underscoredIf t name) bit count) → BindsAt b n last l (underscoredIf t name) v x (record { bound = Length (p .total); at = p .from })
+    bound-behind count a c h o q k v w {d} {e} {x} i j y =
         let u = bounds g mark fit in
         let z : slice a c d ≡ slice a c b = ap (slice a c) i ∙ slice-above a c (p .from + p .head + len) (slice (p .to) n b) b (omega (arith, u .sum, length-slice (p .to) n b (g .inside))) in
-        bound-value size (slice a c b) (length-slice a c b q ∙ k) v w i (j ∙ ap (sets d (p .from + p .head)) z) y
+        bound-value count (slice a c b) (length-slice a c b q ∙ k) v w i (j ∙ ap (sets d (p .from + p .head)) z) y
 
     -- The value's own bytes lie from `from` to `to` of the sheet.
-    pub bound-there : (size a c : ℕ) → a ≤ c → c ≤ n → c - a ≡ len → (v : Value) → IsSource v bit size (slice a c (take n b)) → {d x : List ℕ} →
-        d ≡ sets b (p .from + p .head) (slice a c b ++ slice (p .to) n b) → x ≡ sets d (p .from) (opening (asked t name) bit size) → BindsAt b n last l (asked t name) v x (record { bound = Length (p .total); at = p .from })
-    bound-there size a c o i k v w {x = x} y h =
+    pub bound-there : (count a c : ℕ) → a ≤ c → c ≤ n → c - a ≡ len → (v : Value) → IsSource v bit count (slice a c (take n b)) → {d x : List ℕ} →
+        d ≡ sets b (p .from + p .head) (slice a c b ++ slice (p .to) n b) → x ≡ sets d (p .from) (opening (underscoredIf t name) bit count) → BindsAt b n last l (underscoredIf t name) v x (record { bound = Length (p .total); at = p .from })
+    bound-there count a c o i k v w {x = x} y h =
         let s : slice a c (take n b) ≡ slice a c b = slice-take a c n b o i in
         let m : length (slice a c (take n b)) ≡ len = length-slice a c (take n b) (omega (arith, length-take-le n b (g .inside))) ∙ k in
-        bound-in g mark fit size (slice a c (take n b)) m v w x (bound-found g mark fit size (slice a c (take n b)) m (y ∙ ap (λ z. sets b (p .from + p .head) (z ++ slice (p .to) n b)) (sym s)) h)
+        bound-in g mark fit count (slice a c (take n b)) m v w x (bound-found g mark fit count (slice a c (take n b)) m (y ∙ ap (λ z. sets b (p .from + p .head) (z ++ slice (p .to) n b)) (sym s)) h)
 
 pub source-length : {b : List ℕ} {n l : ℕ} → Bindable b n l → {v : Value} {o : Source} → Sources (take n b) v o → (o .to ≤ n) × (length (slice (o .from) (o .to) (take n b)) ≡ o .to - o .from)
 source-length {b} {n} g {o = o} s = (omega (arith, s .inside, length-take-le n b (g .inside)), length-slice (o .from) (o .to) (take n b) (s .inside))

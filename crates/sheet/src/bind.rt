@@ -5,9 +5,9 @@ use crate::head::NONE;
 use crate::head::TEXT;
 use crate::lookup::Found;
 use crate::lookup::item;
-use crate::lookup::made;
 use crate::lookup::order;
 use crate::lookup::skip;
+use crate::lookup::underscored_if;
 ghost use mathlib.Core.Path.{_≡_};
 ghost use mathlib.Core.List.{List, [], _++_};
 ghost use mathlib.Core.Option.{some};
@@ -16,7 +16,7 @@ ghost use lib.ListN.{length, take};
 ghost use lib.Seq.{sets};
 ghost use Rattle.rules.specs.Sheet.{Value, Records, text, nothing, word16Bytes, fieldBytes, encode, set};
 ghost use Rattle.sheet.specs.Parts.{slice};
-ghost use Rattle.sheet.specs.Order.{asked};
+ghost use Rattle.sheet.specs.Order.{underscoredIf};
 ghost use Rattle.sheet.specs.Find.{Gives};
 ghost use Rattle.sheet.specs.Place.{Placing, Placed};
 ghost use Rattle.sheet.specs.Mark.{Marked, HasMark};
@@ -44,7 +44,7 @@ pub struct Place {
 // Where the search for a name starts: at `last`, unless the record there comes behind the name.
 fn start(s: &[u8], last: usize, name: &[u8], reference: bool) -> usize
     requires { ⌜ HasMark (now s) last ⌝ }
-    ensures { λ i. ⌜ ((r : Records) → Marked (now (s .entry)) r last → Placing (now (s .entry)) r (asked reference (now (name .entry))) i) ⌝ }
+    ensures { λ i. ⌜ ((r : Records) → Marked (now (s .entry)) r last → Placing (now (s .entry)) r (underscoredIf reference (now (name .entry))) i) ⌝ }
 {
     if last == 0 {
         return 0;
@@ -62,9 +62,9 @@ fn start(s: &[u8], last: usize, name: &[u8], reference: bool) -> usize
 }
 
 // Finds the place of a name among the records.
-fn spot(s: &[u8], last: usize, name: &[u8], reference: bool) -> Place
+fn find_place(s: &[u8], last: usize, name: &[u8], reference: bool) -> Place
     requires { ⌜ HasMark (now s) last ⌝ }
-    ensures { λ p. ⌜ ((r : Records) → Marked (now (s .entry)) r last → Placed (now (s .entry)) r (asked reference (now (name .entry))) (p .from) (p .to)) ⌝ }
+    ensures { λ p. ⌜ ((r : Records) → Marked (now (s .entry)) r last → Placed (now (s .entry)) r (underscoredIf reference (now (name .entry))) (p .from) (p .to)) ⌝ }
 {
     let mut i = start(s, last, name, reference);
     while i < s.len() {
@@ -131,13 +131,13 @@ fn find_room(
     len: usize,
 ) -> Plan
     requires { ⌜ HasMark (now s) last × (limit ≤ 65535) × IsBit bit ⌝ }
-    ensures { λ p. ⌜ Plans (now (s .entry)) last limit (asked reference (now (name .entry))) bit len p ⌝ }
+    ensures { λ p. ⌜ Plans (now (s .entry)) last limit (underscoredIf reference (now (name .entry))) bit len p ⌝ }
 {
     if (limit < name.len()) | (limit < len) {
         return Plan::Over;
     }
     let head = opening_len(name.len(), bit);
-    let p = spot(s, last, name, reference);
+    let p = find_place(s, last, name, reference);
     let total = p.from + head + len + (s.len() - p.to);
     if limit < total {
         return Plan::Over;
@@ -202,11 +202,11 @@ fn put_number(buf: &mut [u8], at: usize, k: usize)
 // Writes a name; of a reference each `-` as `_`.
 fn put_name(buf: &mut [u8], at: usize, name: &[u8], reference: bool)
     requires { ⌜ at + length (now name) ≤ length (now buf) ⌝ }
-    ensures { λ _. ⌜ now (buf .exit) ≡ sets (now (buf .entry)) at (asked reference (now (name .entry))) ⌝ }
+    ensures { λ _. ⌜ now (buf .exit) ≡ sets (now (buf .entry)) at (underscoredIf reference (now (name .entry))) ⌝ }
 {
     let mut i: usize = 0;
     while i < name.len() {
-        buf[at + i] = made(reference, name[i]);
+        buf[at + i] = underscored_if(reference, name[i]);
         i += 1;
     }
 }
@@ -214,7 +214,7 @@ fn put_name(buf: &mut [u8], at: usize, name: &[u8], reference: bool)
 // Writes a name with its length, or nothing for the empty one.
 fn put_field(buf: &mut [u8], at: usize, name: &[u8], reference: bool)
     requires { ⌜ (length (now name) ≤ 65535) × (at + wide (length (now name)) ≤ length (now buf)) ⌝ }
-    ensures { λ _. ⌜ now (buf .exit) ≡ sets (now (buf .entry)) at (fieldBytes (asked reference (now (name .entry)))) ⌝ }
+    ensures { λ _. ⌜ now (buf .exit) ≡ sets (now (buf .entry)) at (fieldBytes (underscoredIf reference (now (name .entry)))) ⌝ }
 {
     if name.len() == 0 {
         return;
@@ -235,14 +235,14 @@ fn map_of(name: usize, bit: u8) -> u8
 }
 
 // Writes a record up to its text or its records.
-fn put_opening(buf: &mut [u8], at: usize, name: &[u8], reference: bool, bit: u8, size: usize)
-    requires { ⌜ Opens (now buf) at (length (now name)) bit size ⌝ }
-    ensures { λ _. ⌜ now (buf .exit) ≡ sets (now (buf .entry)) at (opening (asked reference (now (name .entry))) bit size) ⌝ }
+fn put_opening(buf: &mut [u8], at: usize, name: &[u8], reference: bool, bit: u8, count: usize)
+    requires { ⌜ Opens (now buf) at (length (now name)) bit count ⌝ }
+    ensures { λ _. ⌜ now (buf .exit) ≡ sets (now (buf .entry)) at (opening (underscoredIf reference (now (name .entry))) bit count) ⌝ }
 {
     buf[at] = map_of(name.len(), bit);
     put_field(buf, at + 1, name, reference);
     if bit & (TEXT | DICTIONARY) != 0 {
-        put_number(buf, at + 1 + sized(name.len()), size);
+        put_number(buf, at + 1 + sized(name.len()), count);
     }
 }
 
@@ -251,7 +251,7 @@ pub struct Source {
     pub bit: u8,
     pub from: usize,
     pub to: usize,
-    pub size: usize,
+    pub count: usize,
 }
 
 // The value that a lookup found.
@@ -263,7 +263,7 @@ fn source_of(value: Found) -> Source
             bit: NONE,
             from: 0,
             to: 0,
-            size: 0,
+            count: 0,
         },
         Found::Text { from, to } => {
             if to <= from {
@@ -271,21 +271,21 @@ fn source_of(value: Found) -> Source
                     bit: 0,
                     from: from,
                     to: to,
-                    size: 0,
+                    count: 0,
                 };
             }
             Source {
                 bit: TEXT,
                 from: from,
                 to: to,
-                size: to - from,
+                count: to - from,
             }
         }
         Found::Dictionary { from, to, count } => Source {
             bit: DICTIONARY,
             from: from,
             to: to,
-            size: count,
+            count: count,
         },
     }
 }
@@ -300,11 +300,11 @@ pub fn bind_value_at(
     name: &[u8],
     reference: bool,
     bit: u8,
-    size: usize,
+    count: usize,
     own: &[u8],
 ) -> Put
-    requires { ⌜ Bindable (now buf) n limit × HasMark (take n (now buf)) last × HasSource bit size (now own) ⌝ }
-    ensures { λ o. ⌜ ((v : Value) → IsSource v bit size (now (own .entry)) → BindsAt (now (buf .entry)) n last limit (asked reference (now (name .entry))) v (now (buf .exit)) o) ⌝ }
+    requires { ⌜ Bindable (now buf) n limit × HasMark (take n (now buf)) last × HasSource bit count (now own) ⌝ }
+    ensures { λ o. ⌜ ((v : Value) → IsSource v bit count (now (own .entry)) → BindsAt (now (buf .entry)) n last limit (underscoredIf reference (now (name .entry))) v (now (buf .exit)) o) ⌝ }
 {
     let Plan::Fits(p) = find_room(&buf[..n], last, limit, name, reference, bit, own.len()) else {
         return Put {
@@ -314,7 +314,7 @@ pub fn bind_value_at(
     };
     shift(buf, p.to, n, p.from + p.head + own.len());
     buffers::store(buf, p.from + p.head, own);
-    put_opening(buf, p.from, name, reference, bit, size);
+    put_opening(buf, p.from, name, reference, bit, count);
     Put {
         bound: Bound::Length(p.total),
         at: p.from,
@@ -329,13 +329,13 @@ pub fn bind_value(
     name: &[u8],
     reference: bool,
     bit: u8,
-    size: usize,
+    count: usize,
     own: &[u8],
 ) -> Bound
-    requires { ⌜ Bindable (now buf) n limit × HasSource bit size (now own) ⌝ }
-    ensures { λ o. ⌜ Binds (now (buf .entry)) n limit (asked reference (now (name .entry))) bit size (now (own .entry)) (now (buf .exit)) o ⌝ }
+    requires { ⌜ Bindable (now buf) n limit × HasSource bit count (now own) ⌝ }
+    ensures { λ o. ⌜ Binds (now (buf .entry)) n limit (underscoredIf reference (now (name .entry))) bit count (now (own .entry)) (now (buf .exit)) o ⌝ }
 {
-    let o = bind_value_at(buf, n, 0, limit, name, reference, bit, size, own);
+    let o = bind_value_at(buf, n, 0, limit, name, reference, bit, count, own);
     o.bound
 }
 
@@ -348,12 +348,12 @@ pub fn bind_behind(
     limit: usize,
     name: &[u8],
     bit: u8,
-    size: usize,
+    count: usize,
     from: usize,
     to: usize,
 ) -> Put
-    requires { ⌜ Bindable (now buf) n limit × HasMark (take n (now buf)) last × (limit ≤ from) × (from ≤ to) × (to ≤ length (now buf)) × HasSource bit size (slice from to (now buf)) ⌝ }
-    ensures { λ o. ⌜ ((v : Value) → IsSource v bit size (slice from to (now (buf .entry))) → BindsAt (now (buf .entry)) n last limit (now (name .entry)) v (now (buf .exit)) o) ⌝ }
+    requires { ⌜ Bindable (now buf) n limit × HasMark (take n (now buf)) last × (limit ≤ from) × (from ≤ to) × (to ≤ length (now buf)) × HasSource bit count (slice from to (now buf)) ⌝ }
+    ensures { λ o. ⌜ ((v : Value) → IsSource v bit count (slice from to (now (buf .entry))) → BindsAt (now (buf .entry)) n last limit (now (name .entry)) v (now (buf .exit)) o) ⌝ }
 {
     let len = to - from;
     let Plan::Fits(p) = find_room(&buf[..n], last, limit, name, false, bit, len) else {
@@ -364,7 +364,7 @@ pub fn bind_behind(
     };
     shift(buf, p.to, n, p.from + p.head + len);
     shift(buf, from, to, p.from + p.head);
-    put_opening(buf, p.from, name, false, bit, size);
+    put_opening(buf, p.from, name, false, bit, count);
     Put {
         bound: Bound::Length(p.total),
         at: p.from,
@@ -381,7 +381,7 @@ pub fn bind_text(
     content: &[u8],
 ) -> Bound
     requires { ⌜ Bindable (now buf) n limit ⌝ }
-    ensures { λ o. ⌜ BindsTo (now (buf .entry)) n limit (asked reference (now (name .entry))) (text (now (content .entry))) (now (buf .exit)) o ⌝ }
+    ensures { λ o. ⌜ BindsTo (now (buf .entry)) n limit (underscoredIf reference (now (name .entry))) (text (now (content .entry))) (now (buf .exit)) o ⌝ }
 {
     if content.len() == 0 {
         return bind_value(buf, n, limit, name, reference, 0, 0, content);
@@ -392,7 +392,7 @@ pub fn bind_text(
 // Binds a name to none.
 pub fn bind_none(buf: &mut [u8], n: usize, limit: usize, name: &[u8], reference: bool) -> Bound
     requires { ⌜ Bindable (now buf) n limit ⌝ }
-    ensures { λ o. ⌜ BindsTo (now (buf .entry)) n limit (asked reference (now (name .entry))) nothing (now (buf .exit)) o ⌝ }
+    ensures { λ o. ⌜ BindsTo (now (buf .entry)) n limit (underscoredIf reference (now (name .entry))) nothing (now (buf .exit)) o ⌝ }
 {
     bind_value(buf, n, limit, name, reference, NONE, 0, b"")
 }
@@ -408,7 +408,7 @@ pub fn bind_from(
     value: Found,
 ) -> Bound
     requires { ⌜ Bindable (now buf) n limit × IsThere (now other) value ⌝ }
-    ensures { λ o. ⌜ ((v : Value) → Gives (now (other .entry)) (some v) value → BindsTo (now (buf .entry)) n limit (asked reference (now (name .entry))) v (now (buf .exit)) o) ⌝ }
+    ensures { λ o. ⌜ ((v : Value) → Gives (now (other .entry)) (some v) value → BindsTo (now (buf .entry)) n limit (underscoredIf reference (now (name .entry))) v (now (buf .exit)) o) ⌝ }
 {
     let o = source_of(value);
     let from = o.from;
@@ -420,7 +420,7 @@ pub fn bind_from(
         name,
         reference,
         o.bit,
-        o.size,
+        o.count,
         &other[from..to],
     )
 }
@@ -435,13 +435,13 @@ pub fn bind_found(
     value: Found,
 ) -> Bound
     requires { ⌜ Bindable (now buf) n limit × IsThere (take n (now buf)) value ⌝ }
-    ensures { λ o. ⌜ ((v : Value) → Gives (take n (now (buf .entry))) (some v) value → BindsTo (now (buf .entry)) n limit (asked reference (now (name .entry))) v (now (buf .exit)) o) ⌝ }
+    ensures { λ o. ⌜ ((v : Value) → Gives (take n (now (buf .entry))) (some v) value → BindsTo (now (buf .entry)) n limit (underscoredIf reference (now (name .entry))) v (now (buf .exit)) o) ⌝ }
 {
     let o = source_of(value);
     let Plan::Fits(p) = find_room(&buf[..n], 0, limit, name, reference, o.bit, o.to - o.from) else {
         return Bound::Over;
     };
     arrange(buf, p.from + p.head, o.from, o.to, p.to, n);
-    put_opening(buf, p.from, name, reference, o.bit, o.size);
+    put_opening(buf, p.from, name, reference, o.bit, o.count);
     Bound::Length(p.total)
 }

@@ -12,7 +12,7 @@ ghost use lib.ListN.{length, drop};
 ghost use Rattle.rules.specs.Sheet.{sheetOf};
 ghost use Rattle.rules.specs.Laws.Bool.{isSome};
 ghost use Rattle.scan.specs.Sets.{member};
-ghost use Rattle.sheet.specs.Check.{body, within, suited, InSheet, InLast, lastIn, Enters, EndsAt};
+ghost use Rattle.sheet.specs.Check.{body, within, keepsRules, InSheet, InLast, lastIn, Enters, EndsAt};
 
 // Where what was read ends, or that it breaks the layout.
 pub enum Ends {
@@ -28,9 +28,9 @@ pub struct Last {
 }
 
 // Is the name of the set's bytes and behind the last one, and the text of bytes below 128?
-fn suited(s: &[u8], o: Item, set: Set, last: Last) -> bool
+fn keeps_rules(s: &[u8], o: Item, set: Set, last: Last) -> bool
     requires { ⌜ InSheet (now s) o × InLast (now s) last ⌝ }
-    ensures { λ r. ⌜ r ≡ suited (member set) (lastIn (now (s .entry)) last) (now (s .entry)) o ⌝ }
+    ensures { λ r. ⌜ r ≡ keepsRules (member set) (lastIn (now (s .entry)) last) (now (s .entry)) o ⌝ }
 {
     let from = o.from;
     let to = o.to;
@@ -58,7 +58,7 @@ fn entry(s: &[u8], i: usize, mask: u8, set: Set, last: Last) -> Head
     let Head::Record(o) = read(s, i, mask) else {
         return Head::Bad;
     };
-    if suited(s, o, set, last) {
+    if keeps_rules(s, o, set, last) {
         return Head::Record(o);
     }
     Head::Bad
@@ -76,13 +76,13 @@ fn inside(s: &[u8], kind: u8, at: usize, count: usize, levels: usize) -> Ends
         return Ends::Bad;
     }
     let mut i = at;
-    let mut left = count;
+    let mut remaining = count;
     let mut last = Last {
         known: false,
         from: 0,
         to: 0,
     };
-    while 0 < left {
+    while 0 < remaining {
         let Head::Record(o) = entry(s, i, ENTRY, Set::Name, last) else {
             return Ends::Bad;
         };
@@ -95,7 +95,7 @@ fn inside(s: &[u8], kind: u8, at: usize, count: usize, levels: usize) -> Ends
             to: o.to,
         };
         i = e;
-        left -= 1;
+        remaining -= 1;
     }
     Ends::At(i)
 }

@@ -12,8 +12,8 @@ ghost use Prim.Native.Nat.{ℕ};
 ghost use Rattle.rules.specs.Bytes.{word};
 ghost use Rattle.rules.specs.Sheet.{Value, Records, rec, encode, count, goodRecords, get, resolve};
 ghost use Rattle.sheet.specs.Parts.{Part};
-ghost use Rattle.sheet.specs.Items.{At, Told, Holding, Has};
-ghost use Rattle.sheet.specs.Order.{made, asked, orderOf};
+ghost use Rattle.sheet.specs.Items.{At, IsItem, Holding, Has};
+ghost use Rattle.sheet.specs.Order.{underscoreIf, underscoredIf, orderOf};
 ghost use Rattle.sheet.specs.Place.{HasRecords};
 ghost use Rattle.sheet.specs.Find.{Gives, Body, HasBody, Level, IsSheet};
 
@@ -35,7 +35,7 @@ pub enum Found {
 // The record at a place where there is one.
 pub fn item(s: &[u8], i: usize) -> Item
     requires { ⌜ At (now s) i ⌝ }
-    ensures { λ o. ⌜ ((n : List ℕ) (v : Value) (r : Records) (j : ℕ) → Part (now (s .entry)) i (encode (rec n v r)) j → Told (now (s .entry)) i n v r j o) ⌝ }
+    ensures { λ o. ⌜ ((n : List ℕ) (v : Value) (r : Records) (j : ℕ) → Part (now (s .entry)) i (encode (rec n v r)) j → IsItem (now (s .entry)) i n v r j o) ⌝ }
 {
     let Head::Record(o) = read(s, i, BINDING | ENTRY) else {
         return Item {
@@ -56,11 +56,11 @@ pub fn skip(s: &[u8], at: usize, count: usize) -> usize
     ensures { λ e. ⌜ ((r : Records) (j : ℕ) → Holding (now (s .entry)) at count r j → e ≡ j) ⌝ }
 {
     let mut i = at;
-    let mut left = count;
-    while 0 < left {
+    let mut remaining = count;
+    while 0 < remaining {
         let o = item(s, i);
         i = o.next;
-        left = left - 1 + o.count;
+        remaining = remaining - 1 + o.count;
     }
     i
 }
@@ -81,8 +81,8 @@ pub fn count(s: &[u8]) -> usize
 }
 
 // A byte of a name; in a reference each `-` is made `_`.
-pub fn made(reference: bool, x: u8) -> u8
-    ensures { λ r. ⌜ r ≡ made reference x ⌝ }
+pub fn underscored_if(reference: bool, x: u8) -> u8
+    ensures { λ r. ⌜ r ≡ underscoreIf reference x ⌝ }
 {
     if reference {
         if x == b'-' {
@@ -94,14 +94,14 @@ pub fn made(reference: bool, x: u8) -> u8
 
 // The order of a name and of one that is asked for: 0 less, 1 equal, 2 greater.
 pub fn order(a: &[u8], b: &[u8], reference: bool) -> u8
-    ensures { λ r. ⌜ r ≡ orderOf (now (a .entry)) (asked reference (now (b .entry))) ⌝ }
+    ensures { λ r. ⌜ r ≡ orderOf (now (a .entry)) (underscoredIf reference (now (b .entry))) ⌝ }
 {
     let mut i: usize = 0;
     while i < a.len() {
         if b.len() <= i {
             return 2;
         }
-        let y = made(reference, b[i]);
+        let y = underscored_if(reference, b[i]);
         if a[i] < y {
             return 0;
         }
@@ -141,7 +141,7 @@ pub fn value(s: &[u8], o: Item) -> Found
 // Looks a name up among the records from a place to another; the order of names ends the walk.
 pub fn find(s: &[u8], at: usize, end: usize, name: &[u8], reference: bool) -> Found
     requires { ⌜ Level (now s) at end ⌝ }
-    ensures { λ f. ⌜ ((l : Level (now (s .entry)) at end) → Gives (now (s .entry)) (get (l .r) (asked reference (now (name .entry)))) f) ⌝ }
+    ensures { λ f. ⌜ ((l : Level (now (s .entry)) at end) → Gives (now (s .entry)) (get (l .r) (underscoredIf reference (now (name .entry)))) f) ⌝ }
 {
     let mut i = at;
     while i < end {
@@ -163,7 +163,7 @@ pub fn find(s: &[u8], at: usize, end: usize, name: &[u8], reference: bool) -> Fo
 // Looks a path up: a binding, then keys, parted by `.`.
 pub fn lookup(s: &[u8], path: &[u8], reference: bool) -> Found
     requires { ⌜ IsSheet (now s) ⌝ }
-    ensures { λ f. ⌜ ((r : Records) → now (s .entry) ≡ encode r → goodRecords r word 6 ≡ true → Gives (now (s .entry)) (resolve r (asked reference (now (path .entry)))) f) ⌝ }
+    ensures { λ f. ⌜ ((r : Records) → now (s .entry) ≡ encode r → goodRecords r word 6 ≡ true → Gives (now (s .entry)) (resolve r (underscoredIf reference (now (path .entry)))) f) ⌝ }
 {
     let mut at: usize = 0;
     let mut end = s.len();

@@ -21,7 +21,7 @@ use Rattle.rules.specs.Sheet.{Value, Records, encode, goodRecords, resolve, res
 use Rattle.sheet.specs.declared.lookup.Found.{Found}
 use Rattle.sheet.specs.declared.lookup.Found.the-variants.{Text}
 use Rattle.sheet.specs.Parts.{Part, part-slice}
-use Rattle.sheet.specs.Order.{asked}
+use Rattle.sheet.specs.Order.{underscoredIf}
 use Rattle.sheet.specs.Find.{IsSheet, Gives, foundText, gives-string}
 use Rattle.scan.specs.Laws.{seen, skip-at}
 use Rattle.scan.specs.Paths.{tail-part}
@@ -153,10 +153,10 @@ text-places {s} {x} g e =
 pub no-text : (s : List ℕ) (x : Option Value) (f : Found) {g : Found} → Gives s x f → f ≡ g → foundText s g ≡ [] → textOf x ≡ []
 no-text s x f {g} h e k = sym (gives-string s x f h) ∙ ap (foundText s) e ∙ k
 
-module _ (s run : List ℕ) (f : Found) (told : (r : Records) → s ≡ encode r → goodRecords r word 6 ≡ true → Gives s (resolve r (asked true run)) f) where
+module _ (s run : List ℕ) (f : Found) (told : (r : Records) → s ≡ encode r → goodRecords r word 6 ≡ true → Gives s (resolve r (underscoredIf true run)) f) where
   -- What it gives for the sheet's records.
   pub gives-run : (i : IsSheet s) → Gives s (resolve (i .r) (underscored run)) f
-  unfolding asked
+  unfolding underscoredIf
   gives-run i = told (i .r) (i .bytes) (i .good)
 
   pub reference-text : {room p : ℕ} {b c : List ℕ} {q x y : ℕ} → f ≡ Text x y → Put room b p (take (y - x) (drop x s)) c q → (i : IsSheet s) → Put room b p (resolveString (i .r) (underscored run)) c q

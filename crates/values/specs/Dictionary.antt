@@ -25,11 +25,11 @@ use Rattle.sheet.specs.Mark.{ascending, set-ascending, Marked, HasMark}
 use Rattle.sheet.specs.Write.{IsSource, HasSource, Bindable, BindsAt, Leaves, set-size}
 use Rattle.sheet.specs.declared.bind.Put.{Put}
 use Rattle.sheet.specs.declared.bind.Bound.the-variants.{Over, Length}
-use Rattle.values.specs.declared.Valued.{Valued}
+use Rattle.values.specs.declared.ValueRead.{ValueRead}
 use Rattle.values.specs.Values.{Room, room-two, room-behind, lent-size, lent-first, Taken, ReadsValue, IsNone, Refused, Closes}
 
 -- What f reads from i on is what g reads from `at` on.
-reads-as : {limit : ℕ} {f g : Records → Reader (Answer Value)} {t : List ℕ} {at i : ℕ} {z w c : List ℕ} {r : Valued} → ((s : Records) → g s (drop at t) ≡ f s (drop i t)) → at ≤ i → ReadsValue limit f t i z w c r → ReadsValue limit g t at z w c r
+reads-as : {limit : ℕ} {f g : Records → Reader (Answer Value)} {t : List ℕ} {at i : ℕ} {z w c : List ℕ} {r : ValueRead} → ((s : Records) → g s (drop at t) ≡ f s (drop i t)) → at ≤ i → ReadsValue limit f t i z w c r → ReadsValue limit g t at z w c r
 reads-as {t = t} {c = c} {r = r} e h R = record {
   size = R .size;
   on = omega (arith, R .on);
@@ -39,7 +39,7 @@ reads-as {t = t} {c = c} {r = r} e h R = record {
   stops = λ s y. ap (λ x. x .0) (e (s .r)) ∙ R .stops s y;
 }
 
-reads-none : {limit : ℕ} {g : Records → Reader (Answer Value)} {t : List ℕ} {at i : ℕ} {z w : List ℕ} {r : Valued} → ((s : Records) → g s (drop at t) ≡ (accepted nothing, drop i t)) → at ≤ i → i ≤ length t → IsNone i r → ReadsValue limit g t at z w w r
+reads-none : {limit : ℕ} {g : Records → Reader (Answer Value)} {t : List ℕ} {at i : ℕ} {z w : List ℕ} {r : ValueRead} → ((s : Records) → g s (drop at t) ≡ (accepted nothing, drop i t)) → at ≤ i → i ≤ length t → IsNone i r → ReadsValue limit g t at z w w r
 reads-none {t = t} {w = w} {r = r} e h k N = record {
   size = refl;
   on = omega (arith, N .place);
@@ -49,38 +49,38 @@ reads-none {t = t} {w = w} {r = r} e h k N = record {
     v = nothing;
     is = ap (λ x. x .0) (e (s .r));
     rest = ap (λ x. x .1) (e (s .r)) ∙ ap (λ x. drop x t) (sym (N .place));
-    source = subst (λ x. IsSource nothing (r .bit) (r .size) (take x w)) (sym (N .short)) (N .source);
+    source = subst (λ x. IsSource nothing (r .bit) (r .count) (take x w)) (sym (N .short)) (N .source);
   };
   stops = λ s y. absurd (true≢false (sym (N .fine) ∙ y));
 }
 
 -- VALUES. The line blanks end at i.
 module _ (limit l : ℕ) {t : List ℕ} {at i : ℕ} (X : Spans lineBlank t at i) {q : Bool} (Q : Sees (byteIs 34) t i q) {z w : List ℕ} where
-  pub value-quote : {c : List ℕ} {r : Valued} → q ≡ true → ReadsValue limit (textValue limit) t i z w c r → ReadsValue limit (λ s. value limit s (dictionaryValue limit s l)) t at z w c r
+  pub value-quote : {c : List ℕ} {r : ValueRead} → q ≡ true → ReadsValue limit (textValue limit) t i z w c r → ReadsValue limit (λ s. value limit s (dictionaryValue limit s l)) t at z w c r
   unfolding value _>>=_ _>>_ ifR
   value-quote e R = reads-as (λ s. rw (X .rest, sees-the "\"" Q e .says) refl) (X .on) R
 
   module _ (nq : q ≡ false) {d : Bool} (D : Starts (bytes "(") t i d) where
-    pub value-open : {c : List ℕ} {r : Valued} → d ≡ true → ReadsValue limit (λ s. dictionaryValue limit s l) t (i + 1) z w c r → ReadsValue limit (λ s. value limit s (dictionaryValue limit s l)) t at z w c r
+    pub value-open : {c : List ℕ} {r : ValueRead} → d ≡ true → ReadsValue limit (λ s. dictionaryValue limit s l) t (i + 1) z w c r → ReadsValue limit (λ s. value limit s (dictionaryValue limit s l)) t at z w c r
     unfolding value _>>=_ _>>_ ifR
     value-open e R = reads-as (λ s. rw (X .rest, sees-the "\"" Q nq .says, mark-yes D e) refl) (omega (arith, X .on)) R
 
     module _ (nd : d ≡ false) {n : Bool} (N : Starts (bytes "none") t i n) where
-      pub value-none : {r : Valued} → n ≡ true → IsNone (i + 4) r → ReadsValue limit (λ s. value limit s (dictionaryValue limit s l)) t at z w w r
+      pub value-none : {r : ValueRead} → n ≡ true → IsNone (i + 4) r → ReadsValue limit (λ s. value limit s (dictionaryValue limit s l)) t at z w w r
       unfolding value _>>=_ _>>_ ifR ret
       value-none e R = reads-none (λ s. rw (X .rest, sees-the "\"" Q nq .says, mark-no D nd, mark-yes N e) refl) (omega (arith, X .on)) (N .there e) R
 
       module _ (nn : n ≡ false) {a : Bool} (A : Sees (either "_" letter) t i a) where
-        pub value-name : {c : List ℕ} {r : Valued} → a ≡ true → ReadsValue limit (textValue limit) t i z w c r → ReadsValue limit (λ s. value limit s (dictionaryValue limit s l)) t at z w c r
+        pub value-name : {c : List ℕ} {r : ValueRead} → a ≡ true → ReadsValue limit (textValue limit) t i z w c r → ReadsValue limit (λ s. value limit s (dictionaryValue limit s l)) t at z w c r
         unfolding value _>>=_ _>>_ ifR
         value-name e R = reads-as (λ s. rw (X .rest, sees-the "\"" Q nq .says, mark-no D nd, mark-no N nn, A .says, e) refl) (X .on) R
 
-        pub value-other : {r : Valued} {e : ℕ} → a ≡ false → Spans (notByte 10) t i e → IsNone e r → ReadsValue limit (λ s. value limit s (dictionaryValue limit s l)) t at z w w r
+        pub value-other : {r : ValueRead} {e : ℕ} → a ≡ false → Spans (notByte 10) t i e → IsNone e r → ReadsValue limit (λ s. value limit s (dictionaryValue limit s l)) t at z w w r
         unfolding value _>>=_ _>>_ ifR ret
         value-other g S R = reads-none (λ s. rw (X .rest, sees-the "\"" Q nq .says, mark-no D nd, mark-no N nn, A .says, g, spans-but "\n" S .rest) refl) (omega (arith, X .on, S .on)) (S .inside) R
 
 -- DICTIONARIES. No level is left.
-pub dictionary-seven : {limit l : ℕ} {t : List ℕ} {at : ℕ} {z w : List ℕ} {r : Valued} → l ≡ 0 → at ≤ length t → Refused 7 at r → ReadsValue limit (λ s. dictionaryValue limit s l) t at z w w r
+pub dictionary-seven : {limit l : ℕ} {t : List ℕ} {at : ℕ} {z w : List ℕ} {r : ValueRead} → l ≡ 0 → at ≤ length t → Refused 7 at r → ReadsValue limit (λ s. dictionaryValue limit s l) t at z w w r
 unfolding dictionaryValue ret
 dictionary-seven {limit} {l} {t} {at} e h R = record {
   size = refl;
@@ -141,7 +141,7 @@ unfolding encode ascending
 entering-start {limit} {l} {t} {at} k h = record { inside = h; on = omega arith; size = refl; short = omega arith; growing = λ s. record { d = end; bytes = refl; order = refl; between = between-start end; left = dictionary-rounds limit l (s .r) (drop at t) k } }
 
 module _ (limit l : ℕ) {t : List ℕ} {at : ℕ} {z w c : List ℕ} {i n last : ℕ} (E : Entering limit l t at z w c i n last) {j : ℕ} (X : Spans (either "," blank) t i j) {m : Bool} (M : Sees (but ")") t j m) where
-  pub entering-close : {r : Valued} → m ≡ false → n ≤ length c → Closes t j (take n c) r → ReadsValue limit (λ s. dictionaryValue limit s l) t at z w c r
+  pub entering-close : {r : ValueRead} → m ≡ false → n ≤ length c → Closes t j (take n c) r → ReadsValue limit (λ s. dictionaryValue limit s l) t at z w c r
   unfolding entryRound _>>=_ _>>_ ifR ret
   entering-close {r} e u C = record {
     size = E .size;
@@ -157,7 +157,7 @@ module _ (limit l : ℕ) {t : List ℕ} {at : ℕ} {z w c : List ℕ} {i n last 
           v = dictionary (G .d);
           is = ap (λ x. x .0) b;
           rest = ap (λ x. x .1) b ∙ ap (λ x. x .1) a;
-          source = subst (λ x. IsSource (dictionary (G .d)) (r .bit) (r .size) (take x c)) (sym (C .long ∙ length-take-le n c u)) (C .source (G .d) (G .bytes));
+          source = subst (λ x. IsSource (dictionary (G .d)) (r .bit) (r .count) (take x c)) (sym (C .long ∙ length-take-le n c u)) (C .source (G .d) (G .bytes));
         };
     stops = λ s y. absurd (true≢false (sym (C .fine) ∙ y));
   }
@@ -168,7 +168,7 @@ module _ (limit l : ℕ) {t : List ℕ} {at : ℕ} {z w c : List ℕ} {i n last 
     entry-reads s d inner = rw (X .rest, M .says, e, K .rest, K .took, A .rest) refl
 
     -- The value was read behind the slot.
-    module _ (f : limit + limit ≤ length c) {o : List ℕ} {v : Valued} (U : ReadsValue limit (λ s. value limit s (dictionaryValue limit s (l - 1))) t a z (take (length c - limit) (drop limit c)) o v) where
+    module _ (f : limit + limit ≤ length c) {o : List ℕ} {v : ValueRead} (U : ReadsValue limit (λ s. value limit s (dictionaryValue limit s (l - 1))) t a z (take (length c - limit) (drop limit c)) o v) where
       abbrev after : List ℕ
       after = take limit c ++ (o ++ drop (length c - limit) (drop limit c))
 
@@ -211,8 +211,8 @@ module _ (limit l : ℕ) {t : List ℕ} {at : ℕ} {z w c : List ℕ} {i n last 
           turned : round (G .d) (drop i t) ≡ (grown limit (s .r) (G .d) (part t j k) (accepted (T .v)), drop (v .at) t)
           turned = entry-reads (s .r) (G .d) (dictionaryValue limit (s .r) (l - 1)) ∙ λ y. (grown limit (s .r) (G .d) (part t j k) (T .is y), T .rest y)
 
-          pub own-source : IsSource (T .v) (v .bit) (v .size) (slice limit (limit + v .len) after)
-          own-source = subst (IsSource (T .v) (v .bit) (v .size)) (sym (after-own (omega (arith, U .fits, rest-long)))) (T .source)
+          pub own-source : IsSource (T .v) (v .bit) (v .count) (slice limit (limit + v .len) after)
+          own-source = subst (IsSource (T .v) (v .bit) (v .count)) (sym (after-own (omega (arith, U .fits, rest-long)))) (T .source)
 
       -- It can be bound.
       pub entry-bindable : IsSheet z → {room : ℕ} → room ≡ limit - 3 → limit ≤ 65535 → Bindable after n room
@@ -232,10 +232,10 @@ module _ (limit l : ℕ) {t : List ℕ} {at : ℕ} {z w c : List ℕ} {i n last 
       pub entry-end : limit + v .len ≤ length after
       entry-end = omega (arith, U .fits, after-size)
 
-      pub entry-source : (s : IsSheet z) → v .ok ≡ true → HasSource (v .bit) (v .size) (slice limit (limit + v .len) after)
+      pub entry-source : (s : IsSheet z) → v .ok ≡ true → HasSource (v .bit) (v .count) (slice limit (limit + v .len) after)
       entry-source s h = record { v = T s h .v; is = own-source s h }
 
-      pub entering-no : {r : Valued} → v .ok ≡ false → Refused (v .number) (v .at) r → ReadsValue limit (λ s. dictionaryValue limit s l) t at z w after r
+      pub entering-no : {r : ValueRead} → v .ok ≡ false → Refused (v .number) (v .at) r → ReadsValue limit (λ s. dictionaryValue limit s l) t at z w after r
       entering-no h R = record {
         size = after-size ∙ E .size;
         on = omega (arith, R .place, E .on, X .on, K .on, A .on, U .on);
@@ -246,7 +246,7 @@ module _ (limit l : ℕ) {t : List ℕ} {at : ℕ} {z w c : List ℕ} {i n last 
       }
 
       -- The entry was bound, or is too long. s₀: there is a sheet.
-      module _ (s₀ : IsSheet z) (h : v .ok ≡ true) {room : ℕ} (u : room ≡ limit - 3) {b : List ℕ} {q : Put} (B : (x : Value) → IsSource x (v .bit) (v .size) (slice limit (limit + v .len) after) → BindsAt after n last room (part t j k) x b q) where
+      module _ (s₀ : IsSheet z) (h : v .ok ≡ true) {room : ℕ} (u : room ≡ limit - 3) {b : List ℕ} {q : Put} (B : (x : Value) → IsSource x (v .bit) (v .count) (slice limit (limit + v .len) after) → BindsAt after n last room (part t j k) x b q) where
         binds-at : (s : IsSheet z) → BindsAt after n last (limit - 3) (part t j k) (T s h .v) b q
         binds-at s = subst (λ x. BindsAt after n last x (part t j k) (T s h .v) b q) u (B (T s h .v) (own-source s h))
 
@@ -256,7 +256,7 @@ module _ (limit l : ℕ) {t : List ℕ} {at : ℕ} {z w c : List ℕ} {i n last 
         pub bound-size : length b ≡ length w
         bound-size = binds-at s₀ .long ∙ after-size ∙ E .size
 
-        pub entering-over : {r : Valued} → q .bound ≡ Over → Refused 9 (v .at) r → ReadsValue limit (λ s. dictionaryValue limit s l) t at z w b r
+        pub entering-over : {r : ValueRead} → q .bound ≡ Over → Refused 9 (v .at) r → ReadsValue limit (λ s. dictionaryValue limit s l) t at z w b r
         unfolding Leaves
         entering-over g R = record {
           size = bound-size;

@@ -23,7 +23,7 @@ use Rattle.buffers.specs.Emits.{put-fill}
 use Rattle.strings.specs.Read.{Wrote}
 use Rattle.sheet.specs.Find.{IsSheet}
 use Rattle.sheet.specs.Write.{IsSource, text-empty, text-full}
-use Rattle.values.specs.declared.Valued.{Valued}
+use Rattle.values.specs.declared.ValueRead.{ValueRead}
 
 -- What a value with l levels of dictionaries needs: a slot for each level, and one for a text.
 unfoldable pub slots : ℕ → ℕ → ℕ
@@ -36,14 +36,14 @@ pub record Room (w : List ℕ) (limit l : ℕ) : Type 0 where
   pub most : limit ≤ 65535
 
 -- A value was read up to r .at, and its own bytes stand at the start of w.
-pub record Taken (x : Answer Value × List ℕ) (t w : List ℕ) (r : Valued) : Type 0 where
+pub record Taken (x : Answer Value × List ℕ) (t w : List ℕ) (r : ValueRead) : Type 0 where
   pub v : Value
   pub is : x .0 ≡ accepted v
   pub rest : x .1 ≡ drop (r .at) t
-  pub source : IsSource v (r .bit) (r .size) (take (r .len) w)
+  pub source : IsSource v (r .bit) (r .count) (take (r .len) w)
 
 -- What f reads from `at` on, for the sheet z; w is the work buffer before, and c after.
-pub record ReadsValue (limit : ℕ) (f : Records → Reader (Answer Value)) (t : List ℕ) (at : ℕ) (z w c : List ℕ) (r : Valued) : Type 0 where
+pub record ReadsValue (limit : ℕ) (f : Records → Reader (Answer Value)) (t : List ℕ) (at : ℕ) (z w c : List ℕ) (r : ValueRead) : Type 0 where
   pub size : length c ≡ length w
   pub on : at ≤ r .at
   pub inside : r .at ≤ length t
@@ -52,25 +52,25 @@ pub record ReadsValue (limit : ℕ) (f : Records → Reader (Answer Value)) (t :
   pub stops : (s : IsSheet z) → r .ok ≡ false → f (s .r) (drop at t) .0 ≡ refused (r .number)
 
 -- None, read up to `at`.
-pub record IsNone (at : ℕ) (r : Valued) : Type 0 where
+pub record IsNone (at : ℕ) (r : ValueRead) : Type 0 where
   pub fine : r .ok ≡ true
   pub place : r .at ≡ at
   pub short : r .len ≡ 0
-  pub source : IsSource nothing (r .bit) (r .size) []
+  pub source : IsSource nothing (r .bit) (r .count) []
 
 -- The refusal k, at `at`.
-pub record Refused (k at : ℕ) (r : Valued) : Type 0 where
+pub record Refused (k at : ℕ) (r : ValueRead) : Type 0 where
   pub no : r .ok ≡ false
   pub says : r .number ≡ k
   pub place : r .at ≡ at
   pub short : r .len ≡ 0
 
 -- The dictionary of the records m, closed at `at`.
-pub record Closes (t : List ℕ) (at : ℕ) (m : List ℕ) (r : Valued) : Type 0 where
+pub record Closes (t : List ℕ) (at : ℕ) (m : List ℕ) (r : ValueRead) : Type 0 where
   pub fine : r .ok ≡ true
   pub skips : Skips t at (r .at)
   pub long : r .len ≡ length m
-  pub source : (d : Records) → m ≡ encode d → IsSource (dictionary d) (r .bit) (r .size) m
+  pub source : (d : Records) → m ≡ encode d → IsSource (dictionary d) (r .bit) (r .count) m
 
 -- LAWS. One slot at least.
 pub slot-le : (limit l : ℕ) → limit ≤ slots limit l
@@ -179,7 +179,7 @@ module _ (limit : ℕ) (t : List ℕ) (at : ℕ) (w : List ℕ) {room : ℕ} (e 
           go (yes y) = let n = eqb-false limit 0 (or-false-r (ltb room q) (eqb limit 0) o) in omega (arith, text-length said .0 (omega arith), n)
           go (no y) = omega (arith, text-length said .1 (λ x. omega arith), place, fits-in)
 
-  pub text-over : (ltb room q || eqb limit 0) ≡ true → ReadsValue limit (textValue limit) t at z w (c₀ ++ drop room w) (record { ok = false; number = 9; at = at + k; bit = 0; size = 0; len = 0 })
+  pub text-over : (ltb room q || eqb limit 0) ≡ true → ReadsValue limit (textValue limit) t at z w (c₀ ++ drop room w) (record { ok = false; number = 9; at = at + k; bit = 0; count = 0; len = 0 })
   text-over o = record {
     size = text-size;
     on = omega arith;
@@ -190,10 +190,10 @@ module _ (limit : ℕ) (t : List ℕ) (at : ℕ) (w : List ℕ) {room : ℕ} (e 
   }
 
   module _ (o : (ltb room q || eqb limit 0) ≡ false) where
-    taken : {bit size len : ℕ} (s : IsSheet z) → IsSource (text (said s)) bit size (take len (c₀ ++ drop room w)) → Taken (textValue limit (s .r) (drop at t)) t (c₀ ++ drop room w) (record { ok = true; number = 0; at = at + k; bit = bit; size = size; len = len })
+    taken : {bit size len : ℕ} (s : IsSheet z) → IsSource (text (said s)) bit size (take len (c₀ ++ drop room w)) → Taken (textValue limit (s .r) (drop at t)) t (c₀ ++ drop room w) (record { ok = true; number = 0; at = at + k; bit = bit; count = size; len = len })
     taken s u = record { v = text (said s); is = ap (λ x. x .0) (reads s) ∙ measured-yes limit (text (said s)) (short s o); rest = ap (λ x. x .1) (reads s) ∙ text-rest s; source = u }
 
-    pub text-none : q ≡ 0 → ReadsValue limit (textValue limit) t at z w (c₀ ++ drop room w) (record { ok = true; number = 0; at = at + k; bit = 0; size = 0; len = 0 })
+    pub text-none : q ≡ 0 → ReadsValue limit (textValue limit) t at z w (c₀ ++ drop room w) (record { ok = true; number = 0; at = at + k; bit = 0; count = 0; len = 0 })
     text-none g = record {
       size = text-size;
       on = omega arith;
@@ -203,7 +203,7 @@ module _ (limit : ℕ) (t : List ℕ) (at : ℕ) (w : List ℕ) {room : ℕ} (e 
       stops = λ s y. absurd (true≢false y);
     }
 
-    pub text-some : (q ≡ 0 → ⊥) → ReadsValue limit (textValue limit) t at z w (c₀ ++ drop room w) (record { ok = true; number = 0; at = at + k; bit = 2; size = q; len = q })
+    pub text-some : (q ≡ 0 → ⊥) → ReadsValue limit (textValue limit) t at z w (c₀ ++ drop room w) (record { ok = true; number = 0; at = at + k; bit = 2; count = q; len = q })
     text-some g = record {
       size = text-size;
       on = omega arith;

@@ -14,12 +14,12 @@ ghost use Rattle.values.specs.Values.{Room, ReadsValue, IsNone, Refused,
 
 // What reading a value came to: is there one; if not, the refusal's number; where reading goes on; the value's bit, the number that stands before
 // its own bytes, and how many of those stand at the start of the work buffer.
-pub struct Valued {
+pub struct ValueRead {
     pub ok: bool,
     pub number: u8,
     pub at: usize,
     pub bit: u8,
-    pub size: usize,
+    pub count: usize,
     pub len: usize,
 }
 
@@ -31,7 +31,7 @@ fn own_room(limit: usize) -> usize
 }
 
 // A text.
-fn text_value(text: &[u8], at: usize, sheet: &[u8], work: &mut [u8], limit: usize) -> Valued
+fn text_value(text: &[u8], at: usize, sheet: &[u8], work: &mut [u8], limit: usize) -> ValueRead
     requires { ⌜ (at ≤ length (now text)) × Room (now work) limit 0 × IsSheet (now sheet) ⌝ }
     ensures { λ r. ⌜ ReadsValue limit (textValue limit) (now (text .entry)) at (now (sheet .entry)) (now (work .entry)) (now (work .exit)) r ⌝ }
 {
@@ -40,75 +40,75 @@ fn text_value(text: &[u8], at: usize, sheet: &[u8], work: &mut [u8], limit: usiz
     let end = at + e.used;
     let len = e.next;
     if (room < len) | (limit == 0) {
-        return Valued {
+        return ValueRead {
             ok: false,
             number: 9,
             at: end,
             bit: 0,
-            size: 0,
+            count: 0,
             len: 0,
         };
     }
     if len == 0 {
-        return Valued {
+        return ValueRead {
             ok: true,
             number: 0,
             at: end,
             bit: 0,
-            size: 0,
+            count: 0,
             len: 0,
         };
     }
-    Valued {
+    ValueRead {
         ok: true,
         number: 0,
         at: end,
         bit: TEXT,
-        size: len,
+        count: len,
         len: len,
     }
 }
 
 // None: it has no bytes of its own.
-fn none_value(at: usize) -> Valued
+fn none_value(at: usize) -> ValueRead
     ensures { λ r. ⌜ IsNone at r ⌝ }
 {
-    Valued {
+    ValueRead {
         ok: true,
         number: 0,
         at: at,
         bit: NONE,
-        size: 0,
+        count: 0,
         len: 0,
     }
 }
 
 // The refusal of a value.
-fn no_value(number: u8, at: usize) -> Valued
+fn no_value(number: u8, at: usize) -> ValueRead
     ensures { λ r. ⌜ Refused number at r ⌝ }
 {
-    Valued {
+    ValueRead {
         ok: false,
         number: number,
         at: at,
         bit: 0,
-        size: 0,
+        count: 0,
         len: 0,
     }
 }
 
 // A dictionary whose records these are, at its `)` or the end of the text.
-fn close(text: &[u8], at: usize, records: &[u8]) -> Valued
+fn close(text: &[u8], at: usize, records: &[u8]) -> ValueRead
     requires { ⌜ (at ≤ length (now text)) × HasRecords (now records) ⌝ }
     ensures { λ r. ⌜ Closes (now (text .entry)) at (now (records .entry)) r ⌝ }
 {
     let end = scan::skip(text, at);
-    Valued {
+    ValueRead {
         ok: true,
         number: 0,
         at: end,
         bit: DICTIONARY,
-        size: sheet::lookup::count(records),
+        count: sheet::lookup::count(records),
         len: records.len(),
     }
 }
@@ -121,7 +121,7 @@ pub fn value(
     work: &mut [u8],
     limit: usize,
     levels: usize,
-) -> Valued
+) -> ValueRead
     requires { ⌜ (at ≤ length (now text)) × Room (now work) limit levels × IsSheet (now sheet) ⌝ }
     ensures { λ r. ⌜ ReadsValue limit (λ s. value limit s (dictionaryValue limit s levels)) (now (text .entry)) at (now (sheet .entry)) (now (work .entry)) (now (work .exit)) r ⌝ }
 {
@@ -150,7 +150,7 @@ fn dictionary(
     work: &mut [u8],
     limit: usize,
     levels: usize,
-) -> Valued
+) -> ValueRead
     requires { ⌜ (at ≤ length (now text)) × Room (now work) limit levels × IsSheet (now sheet) ⌝ }
     ensures { λ r. ⌜ ReadsValue limit (λ s. dictionaryValue limit s levels) (now (text .entry)) at (now (sheet .entry)) (now (work .entry)) (now (work .exit)) r ⌝ }
 {
@@ -180,7 +180,7 @@ fn dictionary(
             room,
             &text[j..k],
             v.bit,
-            v.size,
+            v.count,
             limit,
             end,
         );

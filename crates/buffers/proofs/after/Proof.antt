@@ -3,10 +3,10 @@ use Rattle.buffers.proofs.after.Statement.{statement}
 use Rattle.buffers.proofs.after.Tie as tie
 use Rattle.buffers.proofs.after.Reads as reads
 use Rattle.buffers.proofs.after.Lts as lts
-use Rattle.buffers.proofs.spill.Reads as spill-reads
+use Rattle.buffers.proofs.overflow.Reads as overflow-reads
 use mathlib.Core.Path.{_≡_, refl, sym, ap, _∙_}
 use native.Mathlib.Omega.{arith}
-use Rattle.buffers.specs.Put.{after, spill, Writer}
+use Rattle.buffers.specs.Put.{after, overflow, Writer}
 use Rattle.buffers.specs.Laws.{after-fits, after-split, after-stays, after-past}
 
 add-result : tie.Need-add-result
@@ -15,11 +15,11 @@ add-result c = search needs
 returns : tie.Need-returns
 returns c = sym (after-fits _ _ _ (search needs))
 
-spill-requires : tie.Need-spill-requires
-spill-requires c κs = search needs
+overflow-requires : tie.Need-overflow-requires
+overflow-requires c κs = search needs
 
 returns-2 : tie.Need-returns-2
-returns-2 c = c .spill .ensures ∙ sym (after-split _ _ _ (search needs) (search needs))
+returns-2 c = c .overflow .ensures ∙ sym (after-split _ _ _ (search needs) (search needs))
 
 add-if3 : tie.Need-add-if3
 add-if3 c = search needs
@@ -27,8 +27,8 @@ add-if3 c = search needs
 returns-3 : tie.Need-returns-3
 returns-3 c = after-stays _ _ _ (search needs) (c .if3 .taken)
 
-spill-requires-2 : tie.Need-spill-requires-2
-spill-requires-2 c κs = search needs
+overflow-requires-2 : tie.Need-overflow-requires-2
+overflow-requires-2 c κs = search needs
 
 returns-4 : tie.Need-returns-4
 returns-4 c = c .spill2 .ensures ∙ after-past _ _ _ (search needs) (c .before .if3 .left)
@@ -39,9 +39,9 @@ after-spec =
     (tie.spec
     add-result
     returns
-    spill-requires
+    overflow-requires
     returns-2
     add-if3
     returns-3
-    spill-requires-2
+    overflow-requires-2
     returns-4)

@@ -11,10 +11,10 @@ use native.Mathlib.Omega.{arith}
 use Rattle.bundle.specs.Check.{Walking, check-short, walking-start, walking-on, walking-no, walking-end}
 
 abbrev Inv-loop : tie.InvT-loop
-Inv-loop b left₀ w₀ left w = Walking b left w
+Inv-loop b remaining₀ w₀ remaining w = Walking b remaining w
 
 abbrev μ-loop : tie.MeasureT-loop
-μ-loop b left₀ w₀ left w = left
+μ-loop b remaining₀ w₀ remaining w = remaining
 
 returns : tie.Need-returns Inv-loop μ-loop
 returns c = check-short _ (search needs)
@@ -34,8 +34,8 @@ next-requires c κs = (c .before .loop .inv .1 .room, c .before .loop .inv .1 .p
 returns-2 : tie.Need-returns-2 Inv-loop μ-loop
 returns-2 c = walking-no _ (search needs) (c .before .before .next .ensures) (not-true _ (c .if2 .taken)) (c .before .before .before .before .loop .inv)
 
-sub-left : tie.Need-sub-left Inv-loop μ-loop
-sub-left c = search needs
+sub-remaining : tie.Need-sub-remaining Inv-loop μ-loop
+sub-remaining c = search needs
 
 loop-less : tie.Need-loop-less Inv-loop μ-loop
 loop-less c = search needs
@@ -58,7 +58,7 @@ check-spec =
     loop-holds
     next-requires
     returns-2
-    sub-left
+    sub-remaining
     loop-less
     loop-again
     returns-3)

@@ -10,10 +10,10 @@ use native.Mathlib.Omega.{arith}
 use Rattle.bundle.specs.Find.{Finding, find-long, finding-start, ahead, reachable, finding-same, finding-on, finding-folder, finding-absent}
 
 abbrev Inv-loop : tie.InvT-loop
-Inv-loop b path left₀ at₀ folder₀ left at folder = Finding b path left at folder
+Inv-loop b path remaining₀ at₀ folder₀ remaining at folder = Finding b path remaining at folder
 
 abbrev μ-loop : tie.MeasureT-loop
-μ-loop b path left₀ at₀ folder₀ left at folder = left
+μ-loop b path remaining₀ at₀ folder₀ remaining at folder = remaining
 
 word-requires : tie.Need-word-requires Inv-loop μ-loop
 word-requires c κs = find-long _ (c .before .before .pre)
@@ -33,8 +33,8 @@ returns c = finding-same (ahead (c .before .before .before .before .loop .inv) (
 add-at : tie.Need-add-at Inv-loop μ-loop
 add-at c = omega (arith, c .before .before .before .before .entry-at .ensures .inside)
 
-sub-left : tie.Need-sub-left Inv-loop μ-loop
-sub-left c = search needs
+sub-remaining : tie.Need-sub-remaining Inv-loop μ-loop
+sub-remaining c = search needs
 
 loop-less : tie.Need-loop-less Inv-loop μ-loop
 loop-less c = search needs
@@ -60,7 +60,7 @@ find-spec =
     relate-requires
     returns
     add-at
-    sub-left
+    sub-remaining
     loop-less
     loop-again
     returns-2

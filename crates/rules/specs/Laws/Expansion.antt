@@ -10,7 +10,7 @@ use Rattle.rules.specs.Bytes.{blank, lineBlank, letter, digit, word, nam
 use Rattle.rules.specs.Files.{View}
 use Rattle.rules.specs.Sheet.{Records}
 use Rattle.rules.specs.Strings.{reference, plus, expressionRound, expression}
-use Rattle.rules.specs.Expansion.{Call, handsBack, refuses, outputs, Content, handedBack, noContent, given, readCall, content, Arguments, stalled, arguments, langValue, blockValue, argumentValue, argumentRound, rawText, rawEnd, rawArguments, raw, linkBox, linkEnd, link, callDid, calling, callStep, importStep, letStep, referenceStep, copyStep, expansionStep, expansion}
+use Rattle.rules.specs.Expansion.{Call, handsBack, refuses, outputs, Content, handedBack, noContent, given, readCall, content, Arguments, stalled, arguments, langValue, blockValue, argumentValue, argumentRound, rawText, rawEnd, rawArguments, raw, linkContentBlock, linkEnd, link, callDid, calling, callStep, importStep, letStep, referenceStep, copyStep, expansionStep, expansion}
 use Rattle.rules.specs.Laws.Limit.{joinRuns}
 use Rattle.rules.specs.Laws.Read.{Some, newline-tail, Good, Line, good-bind, good-skip, good-span, good-rounds, line-span, line-sees, line-mark, inline}
 use Rattle.rules.specs.Laws.Steps.{goods, good-sees, good-mark, Steps, steps-ret, steps-skip, steps-if, steps-bind, steps-then, run-append, Sure, sure-no, sure-if, sure-bind, sure-then, sure-close, surein-sure, surein-ret, surein-if, surein-bind, surein-then, sure-over, some-not, empty-append}
@@ -85,20 +85,20 @@ module _ (v : View) (look : List ℕ → List ℕ) where
   unfolding raw
   sure-raw = sure-then ended (good-span blank) (sure-bind ended good-content sure-rawArguments)
 
-good-linkBox : (u : List ℕ) → Good (linkBox u)
-unfolding linkBox
-good-linkBox u = search goods depth 12
+good-linkContentBlock : (u : List ℕ) → Good (linkContentBlock u)
+unfolding linkContentBlock
+good-linkContentBlock u = search goods depth 12
 
 good-linkEnd : (u : List ℕ) → Good (linkEnd u)
 unfolding linkEnd
-good-linkEnd u = search (goods, good-linkBox) depth 12
+good-linkEnd u = search (goods, good-linkContentBlock) depth 12
 
 good-link : (look : List ℕ → List ℕ) → Good (link look)
 unfolding link
 good-link look = search (goods, good-expression, good-linkEnd) depth 12
 
 sure-linkEnd : (u : List ℕ) → Sure ended (linkEnd u)
-unfolding linkEnd linkBox ended lineBlank blank but
+unfolding linkEnd linkContentBlock ended lineBlank blank but
 sure-linkEnd u = sure-then ended (good-span blank) (sure-over ended ")" _ _ (unfold the in refl)
     (surein-then ended (line-span lineBlank refl) (surein-bind ended (line-sees (the "[")) (λ b. surein-if ended b
     (surein-sure ended (sure-then ended good-skip (sure-bind ended (good-span (but "]")) (λ w. sure-close ended "]" _ (unfold the in refl) refl))))

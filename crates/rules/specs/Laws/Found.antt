@@ -12,7 +12,7 @@ use lib.Seq.{take-append-seam, drop-append-seam}
 use Rattle.rules.specs.Answer.{Answer, refused, accepted, _>>=_, _>>_, check, orRefuse}
 use Rattle.rules.specs.Reader.{empty, same}
 use Rattle.rules.specs.Bytes.{isPath}
-use Rattle.rules.specs.Layout.{Parser, bind, pure, require, bit, remaining, byte, word16, field, fieldIf, times, take as takeBytes}
+use Rattle.rules.specs.Layout.{Parser, bind, pure, require, bit, remaining, byte, word16, field, fieldIf, times, takeBytes}
 use Rattle.rules.specs.Layout
 use Rattle.rules.specs.Bundle.{Entry, entry, bundleOf, bundleParser}
 use Rattle.rules.specs.Files.{view, entryAt, isFolderOf, fileOf, contentOf, fetch}

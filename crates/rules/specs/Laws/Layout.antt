@@ -10,7 +10,7 @@ use native.Mathlib.Decide.{decLe}
 use lib.ListN.{length, take, drop, getD, drop-of-length-le}
 use lib.Seq.{drop-cons}
 use Rattle.rules.specs.Reader.{empty}
-use Rattle.rules.specs.Layout.{bind, _>>=_, pure, byte, word16, take as takeBytes}
+use Rattle.rules.specs.Layout.{bind, _>>=_, pure, byte, word16, takeBytes}
 
 module _ (b : List ℕ) (i : ℕ) where
   pub byte-at : i < length b → byte (drop i b) ≡ some (getD b i 0, drop (i + 1) b)

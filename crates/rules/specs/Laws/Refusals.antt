@@ -13,7 +13,7 @@ use Rattle.rules.specs.Bytes.{ascii, trim, join}
 use Rattle.rules.specs.Files.{View, fetch, opened}
 use Rattle.rules.specs.Sheet.{Value, dictionary, text, Records, set, valueLength}
 use Rattle.rules.specs.Includes.{commented, Quoted, unquoted, quoted, quote, Source, noParen, noPath, noLanguage, source, sourceArguments, toNewline, fenced, wrote, copied, copyByte, included, includeOf, includeMark, sourceText, sourceOf, sourceMark, includeStep, insideFile, includes}
-use Rattle.rules.specs.Expansion.{Call, handsBack, refuses, outputs, Content, handedBack, noContent, given, rawContent, readCall, content, Arguments, stalled, arguments, rawEnd, rawArguments, raw, linkBox, linkEnd, link, writes, binds, callDid, calling, callStep, importStep, letStep, referenceStep, copyStep, expansionStep, expansion}
+use Rattle.rules.specs.Expansion.{Call, handsBack, refuses, outputs, Content, handedBack, noContent, given, rawContent, readCall, content, Arguments, stalled, arguments, rawEnd, rawArguments, raw, linkContentBlock, linkEnd, link, writes, binds, callDid, calling, callStep, importStep, letStep, referenceStep, copyStep, expansionStep, expansion}
 use Rattle.rules.specs.Definitions.{measured, textValue, value, grown, entryRound, dictionaryValue, Names, bound, letBound, definitionStep}
 use Rattle.rules.specs.Definitions
 use Rattle.rules.specs.Laws.Numbers.{numbered, numberedE, numberedT, numberedE-andThen, run-numbered, emitted-numbered, numbered-fetch, numbered-opened}
@@ -167,7 +167,7 @@ module _ (v : View) (look : List ℕ → List ℕ) where
   numbers-back = yields-ret callNumbered handsBack refl
 
   numbers-link : Yields callNumbered (link look)
-  unfolding link linkEnd linkBox
+  unfolding link linkEnd linkContentBlock
   numbers-link = search (yields-bind, yields-then, yields-if, numbers-says, numbers-back) depth 20
 
 call-numbered : (s : Records) (shown : List ℕ) (c : Call) (u t : List ℕ) → callNumbered c ≡ true → didNumbered (callDid s shown c u t .0) ≡ true

@@ -9,7 +9,7 @@ use lib.Dec.{leb, ltb, eqb}
 use lib.ListN.{length, length-append}
 use Rattle.rules.specs.Reader.{all, empty, prefix, same}
 use Rattle.rules.specs.Bytes.{ascii, word, nameByte, less, split}
-use Rattle.rules.specs.Layout.{Parser, bind, _>>=_, _>>_, pure, broken, require, bit, byte, word16, take, field, fieldIf}
+use Rattle.rules.specs.Layout.{Parser, bind, _>>=_, _>>_, pure, broken, require, bit, byte, word16, takeBytes, field, fieldIf}
 use Rattle.rules.specs.Sheet.{Value, text, nothing, dictionary, Records, end, rec, word16Bytes, fieldBytes, fieldMask, count, valueMask, valueBytes, encode, sheetLength, value, oneRecord, someRecords, allRecords, levels, decode, before, goodValue, goodRecords, sheetOf, get, getFields, getPieces, resolve, textOf, resolveString, set}
 use Rattle.rules.specs.Laws.Bool.{and-l, and-r, and-i, and-false-r, or-i-l, or-i-r, or-elim, or-false-l, or-false-r, not-true, true-leb, leb-true, true-ltb, ltb-true, false-ltb, true-eqb, eqb-true, false-eqb}
 use Rattle.rules.specs.Laws.Texts.{all-right}
@@ -278,8 +278,8 @@ pub word16-read : (n : ℕ) (b : List ℕ) → word16 (word16Bytes n ++ b) ≡ s
 unfolding word16 word16Bytes byte pure bind _>>=_
 word16-read n b = let e : n % 256 + 256 * (n / 256) ≡ n = omega arith in ap (λ z. some (z, b)) e
 
-take-read : (t b : List ℕ) → take (length t) (t ++ b) ≡ some (t, b)
-unfolding take byte pure bind _>>=_
+take-read : (t b : List ℕ) → takeBytes (length t) (t ++ b) ≡ some (t, b)
+unfolding takeBytes byte pure bind _>>=_
 take-read [] b = refl
 take-read (x ∷ xs) b = rw (take-read xs b)
 
@@ -375,12 +375,12 @@ word16-written (x ∷ z ∷ b) y a h =
     let q : (x + 256 * z) / 256 ≡ z = omega arith in
     rw (← e) (rw (p, q))
 
-take-written : (n : ℕ) (b : List ℕ) (y : List ℕ × List ℕ) → take n b ≡ some y → (length (y .0) ≡ n) × (b ≡ y .0 ++ y .1)
-unfolding take byte pure bind _>>=_
+take-written : (n : ℕ) (b : List ℕ) (y : List ℕ × List ℕ) → takeBytes n b ≡ some y → (length (y .0) ≡ n) × (b ≡ y .0 ++ y .1)
+unfolding takeBytes byte pure bind _>>=_
 take-written zero b y h = let e : ([], b) ≡ y = cc in rw (← e) (refl, refl)
 take-written (suc n) [] y h = absurd (Option·none-ne-some y h)
 take-written (suc n) (x ∷ b) y h =
-    let i = bind-some (take n b) (λ r. some (x ∷ r .0, r .1)) h in
+    let i = bind-some (takeBytes n b) (λ r. some (x ∷ r .0, r .1)) h in
     let k = take-written n b (i .0) (i .1) in
     let e : (x ∷ i .0 .0, i .0 .1) ≡ y = cc (i .2) in
     rw (← e) (ap suc (k .0), ap (λ t. x ∷ t) (k .1))
@@ -395,8 +395,8 @@ field-full (x ∷ xs) c y h = (cc, refl, λ k. refl)
 field-written : (b : List ℕ) (y : List ℕ × List ℕ) → all isByte b ≡ true → field word16 b ≡ some y → (b ≡ fieldBytes (y .0) ++ y .1) × ((k : ℕ) → fieldMask k (y .0) ≡ k)
 unfolding field pure _>>=_ _>>_
 field-written b y a h =
-    let i = bind-some (word16 b) (λ r. bind (take (r .0) (r .1)) (λ s. bind (require (not (empty (s .0))) (s .1)) (λ u. some (s .0, u .1)))) h in
-    let j = bind-some (take (i .0 .0) (i .0 .1)) (λ s. bind (require (not (empty (s .0))) (s .1)) (λ u. some (s .0, u .1))) (i .2) in
+    let i = bind-some (word16 b) (λ r. bind (takeBytes (r .0) (r .1)) (λ s. bind (require (not (empty (s .0))) (s .1)) (λ u. some (s .0, u .1)))) h in
+    let j = bind-some (takeBytes (i .0 .0) (i .0 .1)) (λ s. bind (require (not (empty (s .0))) (s .1)) (λ u. some (s .0, u .1))) (i .2) in
     let f = field-full (j .0 .0) (j .0 .1) y (j .2) in
     let w = word16-written b (i .0) a (i .1) in
     let t = take-written (i .0 .0) (i .0 .1) (j .0) (j .1) in

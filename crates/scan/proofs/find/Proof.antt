@@ -3,7 +3,7 @@ use Rattle.scan.proofs.find.Statement.{statement}
 use Rattle.scan.proofs.find.Tie as tie
 use Rattle.scan.proofs.find.Reads as reads
 use Rattle.scan.proofs.find.Lts as lts
-use Rattle.scan.proofs.lacks.Reads as lacks-reads
+use Rattle.scan.proofs.block_without.Reads as block-without-reads
 use Rattle.scan.proofs.near.Reads as near-reads
 use mathlib.Core.Path.{sym, _∙_}
 use Prim.Native.Nat.{_-_}
@@ -25,8 +25,8 @@ loop-holds c = spanning-start _ _ _ (search needs)
 sub-loop : tie.Need-sub-loop Inv-loop μ-loop
 sub-loop c = search needs
 
-lacks-requires : tie.Need-lacks-requires Inv-loop μ-loop
-lacks-requires c κs = search needs
+block-without-requires : tie.Need-block-without-requires Inv-loop μ-loop
+block-without-requires c κs = search needs
 
 near-requires : tie.Need-near-requires Inv-loop μ-loop
 near-requires c κs = search needs
@@ -41,7 +41,7 @@ loop-less : tie.Need-loop-less Inv-loop μ-loop
 loop-less c = search needs
 
 loop-again : tie.Need-loop-again Inv-loop μ-loop
-loop-again c = spanning-block _ _ _ _ _ (c .before .before .before .loop .inv) (search needs) (sym (c .before .lacks .ensures) ∙ not-false _ (c .if1 .left))
+loop-again c = spanning-block _ _ _ _ _ (c .before .before .before .loop .inv) (search needs) (sym (c .before .block-without .ensures) ∙ not-false _ (c .if1 .left))
 
 near-requires-2 : tie.Need-near-requires-2 Inv-loop μ-loop
 near-requires-2 c κs = search needs
@@ -57,7 +57,7 @@ find-spec =
     μ-loop
     loop-holds
     sub-loop
-    lacks-requires
+    block-without-requires
     near-requires
     returns
     add-i

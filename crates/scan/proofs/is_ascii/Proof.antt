@@ -7,16 +7,16 @@ use Prim.Native.Nat.{_-_}
 use lib.ListN.{length}
 use Rattle.rules.specs.Bytes.{ascii}
 use Rattle.scan.specs.Sets.{classes}
-use Rattle.scan.specs.Blocks.{Told, told-start, told-on, told-end}
+use Rattle.scan.specs.Blocks.{AllUpTo, all-start, all-on, all-end}
 
 abbrev Inv-loop : tie.InvT-loop
-Inv-loop text good₀ i₀ good i = Told ascii text i good
+Inv-loop text good₀ i₀ good i = AllUpTo ascii text i good
 
 abbrev μ-loop : tie.MeasureT-loop
 μ-loop text good₀ i₀ good i = length text - i
 
 loop-holds : tie.Need-loop-holds Inv-loop μ-loop
-loop-holds c = told-start _ _
+loop-holds c = all-start _ _
 
 shared-slice-read-good : tie.Need-shared-slice-read-good Inv-loop μ-loop
 shared-slice-read-good c = search needs
@@ -29,10 +29,10 @@ loop-less c = search needs
 
 loop-again : tie.Need-loop-again Inv-loop μ-loop
 unfolding classes
-loop-again c = told-on _ _ _ (c .before .before .loop .inv) (search needs)
+loop-again c = all-on _ _ _ (c .before .before .loop .inv) (search needs)
 
 returns : tie.Need-returns Inv-loop μ-loop
-returns c = told-end _ _ _ (c .before .loop .inv) (search needs)
+returns c = all-end _ _ _ (c .before .loop .inv) (search needs)
 
 pub is-ascii-spec : {M : Type 1} → statement M
 is-ascii-spec =

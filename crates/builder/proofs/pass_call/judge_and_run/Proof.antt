@@ -23,7 +23,7 @@ returns : tie.Need-returns
 returns c = passes-refused (c .refused .ensures) refl refl refl (pass-judged _ _ _ _ _ _ _ (rw (c .before .before .before .sheet-limit .ensures) at (c .before .before .refusal .ensures)) (c .before .if1 .taken))
 
 run-requires : tie.Need-run-requires
-run-requires c κs = record { limits = c .before .before .before .before .before .sheet-limit .ensures; fine = rw (c .before .before .before .before .before .sheet-limit .ensures) at (c .before .before .before .before .refusal .ensures .yes (search needs)) }
+run-requires c κs = record { limits = c .before .before .before .before .before .sheet-limit .ensures; good = rw (c .before .before .before .before .before .sheet-limit .ensures) at (c .before .before .before .before .refusal .ensures .yes (search needs)) }
 
 same-length : tie.Need-same-length
 same-length c = search needs

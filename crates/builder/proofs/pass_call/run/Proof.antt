@@ -15,7 +15,7 @@ use lib.Seq.{length-take-le}
 use Rattle.builder.specs.Pass.{run-stopped, run-inside, run-ascii, run-keeps, run-refused, run-done}
 
 resolve-requires : tie.Need-resolve-requires
-resolve-requires c κs = (c .before .before .before .before .before .before .before .before .pre .fine .bundles, record { place = omega arith; fits = search needs }, omega arith, omega arith)
+resolve-requires c κs = (c .before .before .before .before .before .before .before .before .pre .good .bundles, record { place = omega arith; fits = search needs }, omega arith, omega arith)
 
 refused-requires : tie.Need-refused-requires
 refused-requires c κs = search needs
@@ -38,7 +38,7 @@ slice-aggregate-expand c = sym (length-take-le _ _ (run-inside (c .before .befor
 expand-requires : tie.Need-expand-requires
 expand-requires c κs =
     let e = not-false _ (c .before .before .before .before .before .before .before .if1 .left) in
-    (c .before .before .before .before .before .before .before .before .before .before .before .before .before .before .before .before .before .before .before .before .pre .fine .bundles, run-ascii (c .before .before .before .before .before .before .before .before .before .before .before .before .before .before .before .before .before .before .before .before .pre) (c .before .before .before .before .before .before .before .before .before .before .before .resolve .ensures) e, omega arith, run-keeps (c .before .before .before .before .before .before .before .before .before .before .before .before .before .before .before .before .before .before .before .before .pre) (c .before .before .before .before .before .before .before .before .before .before .before .resolve .ensures) e (c .before .before .before .before .before .store .ensures))
+    (c .before .before .before .before .before .before .before .before .before .before .before .before .before .before .before .before .before .before .before .before .pre .good .bundles, run-ascii (c .before .before .before .before .before .before .before .before .before .before .before .before .before .before .before .before .before .before .before .before .pre) (c .before .before .before .before .before .before .before .before .before .before .before .resolve .ensures) e, omega arith, run-keeps (c .before .before .before .before .before .before .before .before .before .before .before .before .before .before .before .before .before .before .before .before .pre) (c .before .before .before .before .before .before .before .before .before .before .before .resolve .ensures) e (c .before .before .before .before .before .store .ensures))
 
 refused-requires-2 : tie.Need-refused-requires-2
 refused-requires-2 c κs = search needs

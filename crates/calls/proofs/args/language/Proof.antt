@@ -7,7 +7,7 @@ use Rattle.calls.proofs.values.literal_end.Reads as literal-end-reads
 use Rattle.scan.proofs.at.Reads as at-reads
 use Rattle.scan.proofs.span.Reads as span-reads
 use native.Mathlib.Omega.{arith}
-use Rattle.calls.specs.Args.{speaks-literal, speaks-reference}
+use Rattle.calls.specs.Args.{language-literal, language-reference}
 
 at-requires : tie.Need-at-requires
 at-requires c κs = search needs
@@ -37,13 +37,13 @@ add-t12 : tie.Need-add-t12
 add-t12 c = search needs
 
 returns : tie.Need-returns
-returns c = λ look b. speaks-literal look b (c .before .before .before .at .ensures) (c .before .before .if1 .taken) (c .literal-end .ensures)
+returns c = λ look b. language-literal look b (c .before .before .before .at .ensures) (c .before .before .if1 .taken) (c .literal-end .ensures)
 
 span-requires : tie.Need-span-requires
 span-requires c κs = search needs
 
 returns-2 : tie.Need-returns-2
-returns-2 c = λ look b. speaks-reference look b (c .before .before .at .ensures) (c .before .if1 .left) (c .span .ensures)
+returns-2 c = λ look b. language-reference look b (c .before .before .at .ensures) (c .before .if1 .left) (c .span .ensures)
 
 pub language-spec : {M : Type 1} → statement M
 language-spec =

@@ -3,7 +3,7 @@ use Rattle.calls.proofs.content.read_call.Statement.{statement}
 use Rattle.calls.proofs.content.read_call.Tie as tie
 use Rattle.calls.proofs.content.read_call.Reads as reads
 use Rattle.calls.proofs.content.read_call.Lts as lts
-use Rattle.calls.proofs.content.file_told.Reads as file-told-reads
+use Rattle.calls.proofs.content.file_content.Reads as file-content-reads
 use Rattle.calls.proofs.content.open_path.Reads as open-path-reads
 use Rattle.scan.proofs.at.Reads as at-reads
 use Rattle.scan.proofs.find.Reads as find-reads
@@ -68,11 +68,11 @@ skip-requires c κs = search needs
 open-path-requires : tie.Need-open-path-requires
 open-path-requires c κs = search needs
 
-file-told-requires : tie.Need-file-told-requires
-file-told-requires c κs = omega (arith, c .open-path .ensures _ (path-in (search needs) (c .before .before .before .before .before .expression .ensures (c .before .before .before .before .before .before .before .before .before .before .before .before .before .before .pre .2))) .inside)
+file-content-requires : tie.Need-file-content-requires
+file-content-requires c κs = omega (arith, c .open-path .ensures _ (path-in (search needs) (c .before .before .before .before .before .expression .ensures (c .before .before .before .before .before .before .before .before .before .before .before .before .before .before .pre .2))) .inside)
 
 returns-2 : tie.Need-returns-2
-returns-2 c = λ s. read-file _ _ (c .before .before .before .before .before .before .before .before .before .before .before .span .ensures) (c .before .before .before .before .before .before .before .before .before .before .at .ensures) (not-false _ (c .before .before .before .before .before .before .before .before .before .if1 .left)) (c .before .before .before .before .before .before .expression .ensures s) (spans-but ")" (c .before .before .before .find .ensures)) (c .before .before .skip .ensures) _ (c .before .open-path .ensures _ (path-in (search needs) (c .before .before .before .before .before .before .expression .ensures s))) (c .file-told .ensures)
+returns-2 c = λ s. read-file _ _ (c .before .before .before .before .before .before .before .before .before .before .before .span .ensures) (c .before .before .before .before .before .before .before .before .before .before .at .ensures) (not-false _ (c .before .before .before .before .before .before .before .before .before .if1 .left)) (c .before .before .before .before .before .before .expression .ensures s) (spans-but ")" (c .before .before .before .find .ensures)) (c .before .before .skip .ensures) _ (c .before .open-path .ensures _ (path-in (search needs) (c .before .before .before .before .before .before .expression .ensures s))) (c .file-content .ensures)
 
 pub read-call-spec : {M : Type 1} → statement M
 read-call-spec =
@@ -92,5 +92,5 @@ read-call-spec =
     find-requires
     skip-requires
     open-path-requires
-    file-told-requires
+    file-content-requires
     returns-2)

@@ -3,12 +3,12 @@ use Rattle.calls.proofs.link.call_end.Statement.{statement}
 use Rattle.calls.proofs.link.call_end.Tie as tie
 use Rattle.calls.proofs.link.call_end.Reads as reads
 use Rattle.calls.proofs.link.call_end.Lts as lts
-use Rattle.calls.proofs.link.box_end.Reads as box-end-reads
+use Rattle.calls.proofs.link.content_block_end.Reads as content-block-end-reads
 use Rattle.scan.proofs.at.Reads as at-reads
 use Rattle.scan.proofs.find.Reads as find-reads
 use Rattle.scan.proofs.skip.Reads as skip-reads
 use Rattle.scan.proofs.span.Reads as span-reads
-use Rattle.calls.specs.Link.{end-box, end-paren}
+use Rattle.calls.specs.Link.{end-block, end-paren}
 
 span-requires : tie.Need-span-requires
 span-requires c κs = search needs
@@ -16,11 +16,11 @@ span-requires c κs = search needs
 at-requires : tie.Need-at-requires
 at-requires c κs = search needs
 
-box-end-requires : tie.Need-box-end-requires
-box-end-requires c κs = c .before .at .ensures .there (c .if1 .taken)
+content-block-end-requires : tie.Need-content-block-end-requires
+content-block-end-requires c κs = c .before .at .ensures .there (c .if1 .taken)
 
 returns : tie.Need-returns
-returns c = end-box (c .before .before .before .span .ensures) (c .before .before .at .ensures) (c .before .if1 .taken) (c .box-end .ensures)
+returns c = end-block (c .before .before .before .span .ensures) (c .before .before .at .ensures) (c .before .if1 .taken) (c .content-block-end .ensures)
 
 find-requires : tie.Need-find-requires
 find-requires c κs = search needs
@@ -40,7 +40,7 @@ call-end-spec =
     (tie.spec
     span-requires
     at-requires
-    box-end-requires
+    content-block-end-requires
     returns
     find-requires
     at-requires-2

@@ -4,8 +4,8 @@ use Rattle.calls.proofs.link.put_link.Tie as tie
 use Rattle.calls.proofs.link.put_link.Reads as reads
 use Rattle.calls.proofs.link.put_link.Lts as lts
 use Rattle.scan.proofs.same.Reads as same-reads
-use Rattle.calls.proofs.link.put_box.Reads as put-box-reads
-use Rattle.calls.specs.Link.{linked-empty, linked-over, linked-same, linked-short, linked-boxed}
+use Rattle.calls.proofs.link.put_content_block.Reads as put-content-block-reads
+use Rattle.calls.specs.Link.{linked-empty, linked-over, linked-same, linked-short, linked-with-block}
 
 returns : tie.Need-returns
 returns c = linked-empty _ _ _ _ (c .if1 .taken)
@@ -40,14 +40,14 @@ same-length-2 c = search needs
 returns-4 : tie.Need-returns-4
 returns-4 c = linked-short _ _ _ _ (c .before .before .before .before .before .if2 .left) (c .before .before .same .ensures) (c .before .before .before .before .before .before .if1 .left) (c .before .if3 .left) (c .if4 .taken)
 
-put-box-requires : tie.Need-put-box-requires
-put-box-requires c κs = search needs
+put-content-block-requires : tie.Need-put-content-block-requires
+put-content-block-requires c κs = search needs
 
 same-length-3 : tie.Need-same-length-3
 same-length-3 c = search needs
 
 returns-5 : tie.Need-returns-5
-returns-5 c = linked-boxed _ _ _ _ (c .before .before .before .before .before .before .before .before .before .if2 .left) (c .before .before .before .before .before .before .same .ensures) (c .before .before .before .before .before .before .before .before .before .before .if1 .left) (c .before .before .before .before .before .if3 .left) (c .before .before .put-box .ensures)
+returns-5 c = linked-with-block _ _ _ _ (c .before .before .before .before .before .before .before .before .before .if2 .left) (c .before .before .before .before .before .before .same .ensures) (c .before .before .before .before .before .before .before .before .before .before .if1 .left) (c .before .before .before .before .before .if3 .left) (c .before .before .put-content-block .ensures)
 
 pub put-link-spec : {M : Type 1} → statement M
 put-link-spec =
@@ -64,6 +64,6 @@ put-link-spec =
     add-result
     same-length-2
     returns-4
-    put-box-requires
+    put-content-block-requires
     same-length-3
     returns-5)

@@ -22,11 +22,11 @@ raw-content-requires c κs = search needs
 enum-told : tie.Need-enum-told
 enum-told c = search needs
 
-enum-known-told : tie.Need-enum-known-told
-enum-known-told c = search needs
+enum-known-content : tie.Need-enum-known-content
+enum-known-content c = search needs
 
-enum-known-told-2 : tie.Need-enum-known-told-2
-enum-known-told-2 c = search needs
+enum-known-content-2 : tie.Need-enum-known-content-2
+enum-known-content-2 c = search needs
 
 arguments-requires : tie.Need-arguments-requires
 arguments-requires c κs = c .before .before .before .raw-content .ensures (c .before .before .before .before .before .before .before .before .before .pre .3) .inside
@@ -47,7 +47,7 @@ returns-2 : tie.Need-returns-2
 returns-2 c = λ s. raw-back _ _ (c .before .before .before .span .ensures) (c .before .before .raw-content .ensures s) (c .enum-told .given .1)
 
 returns-3 : tie.Need-returns-3
-returns-3 c = λ s. raw-refused _ _ (c .before .before .before .before .span .ensures) (c .before .before .before .raw-content .ensures s) (c .before .told .given .1)
+returns-3 c = λ s. raw-refused _ _ (c .before .before .before .before .span .ensures) (c .before .before .before .raw-content .ensures s) (c .before .content .given .1)
 
 same-length : tie.Need-same-length
 same-length c = c .before .before .put-raw .ensures (c .before .before .before .before .before .before .before .before .before .before .before .before .before .before .before .before .before .pre .3) .size
@@ -62,8 +62,8 @@ raw-spec =
     span-requires
     raw-content-requires
     enum-told
-    enum-known-told
-    enum-known-told-2
+    enum-known-content
+    enum-known-content-2
     arguments-requires
     returns
     at-requires

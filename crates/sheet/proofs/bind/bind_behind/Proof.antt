@@ -11,7 +11,7 @@ use mathlib.Core.Bool.{false}
 use lib.ListN.{length}
 use native.Mathlib.Omega.{arith}
 use lib.Seq.{length-sets, length-take-le}
-use Rattle.sheet.specs.Order.{asked}
+use Rattle.sheet.specs.Order.{underscoredIf}
 use Rattle.sheet.specs.Parts.{length-slice}
 use Rattle.sheet.specs.Write.{bound-over, bound-behind, fit-bounds, opens-there}
 
@@ -37,7 +37,7 @@ same-length : tie.Need-same-length
 same-length c = search needs
 
 returns : tie.Need-returns
-unfolding asked
+unfolding underscoredIf
 returns c = λ v w. bound-over (c .before .before .before .before .before .before .pre .0) (c .before .before .before .before .before .before .pre .1) false _ _ _ (c .before .before .find-room .ensures) (c .enum-told .given .1) (length-slice _ _ _ (c .before .before .before .before .before .before .pre .4)) v w
 
 add-shift : tie.Need-add-shift
@@ -73,7 +73,7 @@ same-length-2 : tie.Need-same-length-2
 same-length-2 c = search needs
 
 returns-2 : tie.Need-returns-2
-unfolding asked
+unfolding underscoredIf
 returns-2 c = λ v w. bound-behind (c .before .before .before .before .before .before .before .before .before .before .before .before .before .before .before .before .before .before .before .before .before .pre .0) (c .before .before .before .before .before .before .before .before .before .before .before .before .before .before .before .before .before .before .before .before .before .pre .1) false _ _ _ (c .before .before .before .before .before .before .before .before .before .before .before .before .before .before .before .before .before .find-room .ensures) (c .before .before .before .before .before .before .before .before .before .before .before .before .before .before .before .p .given .1) _ _ _ (c .before .before .before .before .before .before .before .before .before .before .before .before .before .before .before .before .before .before .before .before .before .pre .2) (c .before .before .before .before .before .before .before .before .before .before .before .before .before .before .before .before .before .before .before .before .before .pre .3) (c .before .before .before .before .before .before .before .before .before .before .before .before .before .before .before .before .before .before .before .before .before .pre .4) refl v w (c .before .before .before .before .before .before .before .before .before .before .before .shift .ensures) (c .before .before .before .before .before .before .shift2 .ensures) (c .before .before .put-opening .ensures)
 
 pub bind-behind-spec : {M : Type 1} → statement M

@@ -3,17 +3,17 @@ use Rattle.sheet.proofs.bind.put_name.Statement.{statement}
 use Rattle.sheet.proofs.bind.put_name.Tie as tie
 use Rattle.sheet.proofs.bind.put_name.Reads as reads
 use Rattle.sheet.proofs.bind.put_name.Lts as lts
-use Rattle.sheet.proofs.lookup.made.Reads as made-reads
+use Rattle.sheet.proofs.lookup.underscored_if.Reads as underscored-if-reads
 use mathlib.Core.Path.{_≡_, refl, sym, ap, _∙_}
 use Prim.Native.Nat.{ℕ, _≤_, _-_, _+_}
 use native.Mathlib.Nat.{add-zero}
 use lib.ListN.{length, drop, length-set}
 use lib.Seq.{sets}
-use Rattle.sheet.specs.Order.{asked}
+use Rattle.sheet.specs.Order.{underscoredIf}
 use Rattle.sheet.specs.Write.{name-step, name-end}
 
 abbrev Inv-loop : tie.InvT-loop
-Inv-loop buf₀ at name reference i₀ buf i = (i ≤ length name) × (length buf ≡ length buf₀) × (sets buf (at + i) (drop i (asked reference name)) ≡ sets buf₀ at (asked reference name))
+Inv-loop buf₀ at name reference i₀ buf i = (i ≤ length name) × (length buf ≡ length buf₀) × (sets buf (at + i) (drop i (underscoredIf reference name)) ≡ sets buf₀ at (underscoredIf reference name))
 
 abbrev μ-loop : tie.MeasureT-loop
 μ-loop buf₀ at name reference i₀ buf i = length name - i
@@ -21,11 +21,11 @@ abbrev μ-loop : tie.MeasureT-loop
 loop-holds : tie.Need-loop-holds Inv-loop μ-loop
 loop-holds c = (search needs, refl, simp add-zero refl)
 
-shared-slice-read-made : tie.Need-shared-slice-read-made Inv-loop μ-loop
-shared-slice-read-made c = search needs
+shared-slice-read-underscored-if : tie.Need-shared-slice-read-underscored-if Inv-loop μ-loop
+shared-slice-read-underscored-if c = search needs
 
-made-requires : tie.Need-made-requires Inv-loop μ-loop
-made-requires c κs = search needs
+underscored-if-requires : tie.Need-underscored-if-requires Inv-loop μ-loop
+underscored-if-requires c κs = search needs
 
 add-buf : tie.Need-add-buf Inv-loop μ-loop
 add-buf c = search needs
@@ -40,7 +40,7 @@ loop-less : tie.Need-loop-less Inv-loop μ-loop
 loop-less c = search needs
 
 loop-again : tie.Need-loop-again Inv-loop μ-loop
-loop-again c = (search needs, simp length-set (search needs), name-step _ (c .before .before .before .before .before .before .args .at) (c .before .before .before .loop .i) (c .before .before .before .before .before .before .args .reference) (c .before .before .before .before .before .before .args .name .now) (search needs) (c .made .ensures) ∙ c .before .before .before .loop .inv .2)
+loop-again c = (search needs, simp length-set (search needs), name-step _ (c .before .before .before .before .before .before .args .at) (c .before .before .before .loop .i) (c .before .before .before .before .before .before .args .reference) (c .before .before .before .before .before .before .args .name .now) (search needs) (c .underscored-if .ensures) ∙ c .before .before .before .loop .inv .2)
 
 same-length : tie.Need-same-length Inv-loop μ-loop
 same-length c = search needs
@@ -55,8 +55,8 @@ put-name-spec =
     Inv-loop
     μ-loop
     loop-holds
-    shared-slice-read-made
-    made-requires
+    shared-slice-read-underscored-if
+    underscored-if-requires
     add-buf
     slice-write-buf
     add-i

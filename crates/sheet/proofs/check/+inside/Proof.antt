@@ -22,10 +22,10 @@ abbrev inside-below : ℕ → In 1 inside-kinds.ps
 inside-below t = and 1 inside-kinds.ps (falls 1 inside-kinds.ps _<_ μ-inside t) inside.Pre
 
 abbrev inside-Inv-loop : inside-lts.InvT-loop
-inside-Inv-loop s kind at count levels i₀ left₀ last₀ i left last = Running s at count levels i left last
+inside-Inv-loop s kind at count levels i₀ remaining₀ last₀ i remaining last = Running s at count levels i remaining last
 
 abbrev inside-μ-loop : inside-lts.MeasureT-loop
-inside-μ-loop s kind at count levels i₀ left₀ last₀ i left last = left
+inside-μ-loop s kind at count levels i₀ remaining₀ last₀ i remaining last = remaining
 
 inside-returns : (t : ℕ) → inside-lts.Need-returns (
   entry-reads.Asked,
@@ -123,13 +123,13 @@ inside-returns-4 : (t : ℕ) → inside-lts.Need-returns-4 (
 ) (inside-at t) inside.Post inside-Inv-loop inside-μ-loop
 inside-returns-4 t c = running-bad (c .before .before .before .before .before .before .before .before .loop .inv) _ (c .before .before .before .before .before .before .before .before .before .before .if1 .left) (search needs) (c .before .before .before .before .before .before .entry .ensures) _ (c .before .before .before .before .o .given .1) (c .before .before .inside .ensures) (c .enum-told2 .given .1)
 
-inside-sub-left : (t : ℕ) → inside-lts.Need-sub-left (
+inside-sub-remaining : (t : ℕ) → inside-lts.Need-sub-remaining (
   entry-reads.Asked,
   entry-reads.Learnt,
   inside-below t,
   inside.Post,
 ) (inside-at t) inside.Post inside-Inv-loop inside-μ-loop
-inside-sub-left t c = search needs
+inside-sub-remaining t c = search needs
 
 inside-loop-less : (t : ℕ) → inside-lts.Need-loop-less (
   entry-reads.Asked,
@@ -178,7 +178,7 @@ pub +inside-spec : {M : Type 1} → statement M
     (inside-enum-known-e t)
     (inside-enum-told-2 t)
     (inside-returns-4 t)
-    (inside-sub-left t)
+    (inside-sub-remaining t)
     (inside-loop-less t)
     (inside-loop-again t)
     (inside-returns-5 t)

@@ -12,11 +12,11 @@ use native.Mathlib.Omega.{arith}
 use Prim.Native.Nat.{ℕ, _≤_, _-_, _+_}
 use lib.ListN.{length}
 use Rattle.rules.specs.Sheet.{Records, encode}
-use Rattle.sheet.specs.Order.{asked}
+use Rattle.sheet.specs.Order.{underscoredIf}
 use Rattle.sheet.specs.Find.{Level, Seeking, seek-start, sought, sought-at, seek-end, seek-found, seek-passed, seek-on, item-body, item-has-body, item-holding, item-has, item-rest}
 
 abbrev Inv-loop : tie.InvT-loop
-Inv-loop s at end name reference i₀ i = (l : Level s at «end») → Seeking s i «end» (l .r) (asked reference name)
+Inv-loop s at end name reference i₀ i = (l : Level s at «end») → Seeking s i «end» (l .r) (underscoredIf reference name)
 
 abbrev μ-loop : tie.MeasureT-loop
 μ-loop s at end name reference i₀ i = «end» - i

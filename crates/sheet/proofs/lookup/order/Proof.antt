@@ -3,14 +3,14 @@ use Rattle.sheet.proofs.lookup.order.Statement.{statement}
 use Rattle.sheet.proofs.lookup.order.Tie as tie
 use Rattle.sheet.proofs.lookup.order.Reads as reads
 use Rattle.sheet.proofs.lookup.order.Lts as lts
-use Rattle.sheet.proofs.lookup.made.Reads as made-reads
+use Rattle.sheet.proofs.lookup.underscored_if.Reads as underscored-if-reads
 use native.Mathlib.Omega.{arith}
 use Prim.Native.Nat.{ℕ, _≤_, _-_}
 use lib.ListN.{length}
-use Rattle.sheet.specs.Order.{asked, Ordering, ordering-start, ordering-over, ordering-under, ordering-end, ordering-less, ordering-more, ordering-on}
+use Rattle.sheet.specs.Order.{underscoredIf, Ordering, ordering-start, ordering-over, ordering-under, ordering-end, ordering-less, ordering-more, ordering-on}
 
 abbrev Inv-loop : tie.InvT-loop
-Inv-loop a b reference i₀ i = Ordering a (asked reference b) i
+Inv-loop a b reference i₀ i = Ordering a (underscoredIf reference b) i
 
 abbrev μ-loop : tie.MeasureT-loop
 μ-loop a b reference i₀ i = length a - i
@@ -21,23 +21,23 @@ loop-holds c = ordering-start _ _
 returns : tie.Need-returns Inv-loop μ-loop
 returns c = ordering-over _ _ (c .before .before .loop .inv) (search needs) (search needs)
 
-shared-slice-read-made : tie.Need-shared-slice-read-made Inv-loop μ-loop
-shared-slice-read-made c = search needs
+shared-slice-read-underscored-if : tie.Need-shared-slice-read-underscored-if Inv-loop μ-loop
+shared-slice-read-underscored-if c = search needs
 
-made-requires : tie.Need-made-requires Inv-loop μ-loop
-made-requires c κs = search needs
+underscored-if-requires : tie.Need-underscored-if-requires Inv-loop μ-loop
+underscored-if-requires c κs = search needs
 
 shared-slice-read-if2 : tie.Need-shared-slice-read-if2 Inv-loop μ-loop
 shared-slice-read-if2 c = search needs
 
 returns-2 : tie.Need-returns-2 Inv-loop μ-loop
-returns-2 c = ordering-less _ _ (c .before .before .before .before .before .before .loop .inv) (search needs) (search needs) (c .before .before .made .ensures) (c .if2 .taken)
+returns-2 c = ordering-less _ _ (c .before .before .before .before .before .before .loop .inv) (search needs) (search needs) (c .before .before .underscored-if .ensures) (c .if2 .taken)
 
 shared-slice-read-if3 : tie.Need-shared-slice-read-if3 Inv-loop μ-loop
 shared-slice-read-if3 c = search needs
 
 returns-3 : tie.Need-returns-3 Inv-loop μ-loop
-returns-3 c = ordering-more _ _ (c .before .before .before .before .before .before .before .before .loop .inv) (search needs) (search needs) (c .before .before .before .before .made .ensures) (c .if3 .taken)
+returns-3 c = ordering-more _ _ (c .before .before .before .before .before .before .before .before .loop .inv) (search needs) (search needs) (c .before .before .before .before .underscored-if .ensures) (c .if3 .taken)
 
 add-i : tie.Need-add-i Inv-loop μ-loop
 add-i c = search needs
@@ -46,7 +46,7 @@ loop-less : tie.Need-loop-less Inv-loop μ-loop
 loop-less c = search needs
 
 loop-again : tie.Need-loop-again Inv-loop μ-loop
-loop-again c = ordering-on _ _ (c .before .before .before .before .before .before .before .before .loop .inv) (search needs) (search needs) (c .before .before .before .before .made .ensures) (search needs) (search needs)
+loop-again c = ordering-on _ _ (c .before .before .before .before .before .before .before .before .loop .inv) (search needs) (search needs) (c .before .before .before .before .underscored-if .ensures) (search needs) (search needs)
 
 returns-4 : tie.Need-returns-4 Inv-loop μ-loop
 returns-4 c = ordering-under _ _ (c .before .before .loop .inv) (search needs) (search needs)
@@ -62,8 +62,8 @@ order-spec =
     μ-loop
     loop-holds
     returns
-    shared-slice-read-made
-    made-requires
+    shared-slice-read-underscored-if
+    underscored-if-requires
     shared-slice-read-if2
     returns-2
     shared-slice-read-if3

@@ -12,10 +12,10 @@ use Rattle.rules.specs.Sheet.{Records}
 use Rattle.sheet.specs.Items.{Holding, Has, Left, First, first, first-at, left-small, left-on, left-end}
 
 abbrev Inv-loop : tie.InvT-loop
-Inv-loop s at count i₀ left₀ i left = (r : Records) (j : ℕ) → Holding s at count r j → Left s i left j
+Inv-loop s at count i₀ remaining₀ i remaining = (r : Records) (j : ℕ) → Holding s at count r j → Left s i remaining j
 
 abbrev μ-loop : tie.MeasureT-loop
-μ-loop s at count i₀ left₀ i left = length s - i
+μ-loop s at count i₀ remaining₀ i remaining = length s - i
 
 loop-holds : tie.Need-loop-holds Inv-loop μ-loop
 loop-holds c = λ r j h. record { r = r; holds = h }
@@ -23,11 +23,11 @@ loop-holds c = λ r j h. record { r = r; holds = h }
 item-requires : tie.Need-item-requires Inv-loop μ-loop
 item-requires c κs = first-at (first _ _ _ _ (c .before .loop .inv _ _ (c .before .before .before .pre .holds)) (search needs))
 
-sub-left : tie.Need-sub-left Inv-loop μ-loop
-sub-left c = search needs
+sub-remaining : tie.Need-sub-remaining Inv-loop μ-loop
+sub-remaining c = search needs
 
-add-left : tie.Need-add-left Inv-loop μ-loop
-add-left c =
+add-remaining : tie.Need-add-remaining Inv-loop μ-loop
+add-remaining c =
     let f = first _ _ _ _ (c .before .before .before .loop .inv _ _ (c .before .before .before .before .before .pre .holds)) (search needs) in
     omega (arith, left-small (left-on f (c .before .item .ensures _ _ _ _ (f .part))))
 
@@ -54,8 +54,8 @@ skip-spec =
     μ-loop
     loop-holds
     item-requires
-    sub-left
-    add-left
+    sub-remaining
+    add-remaining
     loop-less
     loop-again
     returns)

@@ -1,13 +1,13 @@
 use borrow.Author.Needs.{needs}
-use Rattle.calls.proofs.link.put_box.Statement.{statement}
-use Rattle.calls.proofs.link.put_box.Tie as tie
-use Rattle.calls.proofs.link.put_box.Reads as reads
-use Rattle.calls.proofs.link.put_box.Lts as lts
+use Rattle.calls.proofs.link.put_content_block.Statement.{statement}
+use Rattle.calls.proofs.link.put_content_block.Tie as tie
+use Rattle.calls.proofs.link.put_content_block.Reads as reads
+use Rattle.calls.proofs.link.put_content_block.Lts as lts
 use Rattle.buffers.proofs.move_up.Reads as move-up-reads
 use Rattle.buffers.proofs.put.Reads as put-reads
 use Rattle.buffers.proofs.store.Reads as store-reads
 use Rattle.buffers.specs.Laws.{put-writer}
-use Rattle.calls.specs.Link.{put-boxed}
+use Rattle.calls.specs.Link.{put-with-block}
 
 move-up-requires : tie.Need-move-up-requires
 move-up-requires c κs = search needs
@@ -40,10 +40,10 @@ same-length : tie.Need-same-length
 same-length c = search needs
 
 returns : tie.Need-returns
-returns c = put-boxed (c .before .before .before .before .before .before .before .before .before .before .before .before .before .before .before .before .before .before .before .before .before .before .before .before .before .pre .0) (c .before .before .before .before .before .before .before .before .before .before .before .before .before .before .before .before .before .before .before .before .before .before .before .before .before .pre .1) (c .before .before .before .before .before .before .before .before .before .before .before .before .before .before .before .before .before .before .before .before .before .move-up .ensures) (c .before .before .before .before .before .before .before .before .before .before .before .before .before .before .before .before .store .ensures) (c .before .before .before .before .before .before .before .before .before .before .before .put .ensures) (c .before .before .before .before .before .before .before .put2 .ensures) (c .before .before .put3 .ensures)
+returns c = put-with-block (c .before .before .before .before .before .before .before .before .before .before .before .before .before .before .before .before .before .before .before .before .before .before .before .before .before .pre .0) (c .before .before .before .before .before .before .before .before .before .before .before .before .before .before .before .before .before .before .before .before .before .before .before .before .before .pre .1) (c .before .before .before .before .before .before .before .before .before .before .before .before .before .before .before .before .before .before .before .before .before .move-up .ensures) (c .before .before .before .before .before .before .before .before .before .before .before .before .before .before .before .before .store .ensures) (c .before .before .before .before .before .before .before .before .before .before .before .put .ensures) (c .before .before .before .before .before .before .before .put2 .ensures) (c .before .before .put3 .ensures)
 
-pub put-box-spec : {M : Type 1} → statement M
-put-box-spec =
+pub put-content-block-spec : {M : Type 1} → statement M
+put-content-block-spec =
     tie.close
     (tie.spec
     move-up-requires

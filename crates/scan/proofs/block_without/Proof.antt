@@ -1,21 +1,21 @@
 use borrow.Author.Needs.{needs}
-use Rattle.scan.proofs.lacks.Statement.{statement}
-use Rattle.scan.proofs.lacks.Tie as tie
-use Rattle.scan.proofs.lacks.Reads as reads
-use Rattle.scan.proofs.lacks.Lts as lts
+use Rattle.scan.proofs.block_without.Statement.{statement}
+use Rattle.scan.proofs.block_without.Tie as tie
+use Rattle.scan.proofs.block_without.Reads as reads
+use Rattle.scan.proofs.block_without.Lts as lts
 use Prim.Native.Nat.{_-_}
 use lib.ListN.{take, drop}
 use Rattle.scan.specs.Sets.{notByte}
-use Rattle.scan.specs.Blocks.{Told, told-start, block-on, block-end}
+use Rattle.scan.specs.Blocks.{AllUpTo, all-start, block-on, block-end}
 
 abbrev Inv-loop : tie.InvT-loop
-Inv-loop text at c good₀ i₀ good i = Told (notByte c) (take 32 (drop at text)) i good
+Inv-loop text at c good₀ i₀ good i = AllUpTo (notByte c) (take 32 (drop at text)) i good
 
 abbrev μ-loop : tie.MeasureT-loop
 μ-loop text at c good₀ i₀ good i = 32 - i
 
 loop-holds : tie.Need-loop-holds Inv-loop μ-loop
-loop-holds c = told-start _ _
+loop-holds c = all-start _ _
 
 add-good : tie.Need-add-good Inv-loop μ-loop
 add-good c = search needs
@@ -35,8 +35,8 @@ loop-again c = block-on _ _ _ _ (c .before .before .before .pre) _ (c .before .b
 returns : tie.Need-returns Inv-loop μ-loop
 returns c = block-end _ _ _ _ (c .before .before .pre) _ (c .before .loop .inv) (search needs)
 
-pub lacks-spec : {M : Type 1} → statement M
-lacks-spec =
+pub block-without-spec : {M : Type 1} → statement M
+block-without-spec =
     tie.close
     (tie.spec
     Inv-loop

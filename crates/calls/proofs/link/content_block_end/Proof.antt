@@ -1,15 +1,15 @@
 use borrow.Author.Needs.{needs}
-use Rattle.calls.proofs.link.box_end.Statement.{statement}
-use Rattle.calls.proofs.link.box_end.Tie as tie
-use Rattle.calls.proofs.link.box_end.Reads as reads
-use Rattle.calls.proofs.link.box_end.Lts as lts
+use Rattle.calls.proofs.link.content_block_end.Statement.{statement}
+use Rattle.calls.proofs.link.content_block_end.Tie as tie
+use Rattle.calls.proofs.link.content_block_end.Reads as reads
+use Rattle.calls.proofs.link.content_block_end.Lts as lts
 use Rattle.scan.proofs.at.Reads as at-reads
 use Rattle.scan.proofs.find.Reads as find-reads
 use Rattle.scan.proofs.skip.Reads as skip-reads
 use Rattle.scan.proofs.span.Reads as span-reads
 use native.Mathlib.Omega.{arith}
 use borrow.Author.Tests.{not-true, not-false}
-use Rattle.calls.specs.Link.{box-none, box-text}
+use Rattle.calls.specs.Link.{block-none, block-text}
 
 add-span : tie.Need-add-span
 add-span c = search needs
@@ -21,7 +21,7 @@ at-requires : tie.Need-at-requires
 at-requires c κs = search needs
 
 returns : tie.Need-returns
-returns c = box-none (c .before .before .before .before .pre) (c .before .before .span .ensures) (c .before .at .ensures) (not-true _ (c .if1 .taken))
+returns c = block-none (c .before .before .before .before .pre) (c .before .before .span .ensures) (c .before .at .ensures) (not-true _ (c .if1 .taken))
 
 add-find : tie.Need-add-find
 add-find c = search needs
@@ -39,10 +39,10 @@ add-t7 : tie.Need-add-t7
 add-t7 c = search needs
 
 returns-2 : tie.Need-returns-2
-returns-2 c = box-text (c .before .before .before .before .before .before .before .pre) (c .before .before .before .before .before .span .ensures) (c .before .before .before .before .at .ensures) (not-false _ (c .before .before .before .if1 .left)) (c .before .before .find .ensures) (c .before .at2 .ensures) (c .skip .ensures)
+returns-2 c = block-text (c .before .before .before .before .before .before .before .pre) (c .before .before .before .before .before .span .ensures) (c .before .before .before .before .at .ensures) (not-false _ (c .before .before .before .if1 .left)) (c .before .before .find .ensures) (c .before .at2 .ensures) (c .skip .ensures)
 
-pub box-end-spec : {M : Type 1} → statement M
-box-end-spec =
+pub content-block-end-spec : {M : Type 1} → statement M
+content-block-end-spec =
     tie.close
     (tie.spec
     add-span

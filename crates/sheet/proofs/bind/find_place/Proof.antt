@@ -1,8 +1,8 @@
 use borrow.Author.Needs.{needs}
-use Rattle.sheet.proofs.bind.spot.Statement.{statement}
-use Rattle.sheet.proofs.bind.spot.Tie as tie
-use Rattle.sheet.proofs.bind.spot.Reads as reads
-use Rattle.sheet.proofs.bind.spot.Lts as lts
+use Rattle.sheet.proofs.bind.find_place.Statement.{statement}
+use Rattle.sheet.proofs.bind.find_place.Tie as tie
+use Rattle.sheet.proofs.bind.find_place.Reads as reads
+use Rattle.sheet.proofs.bind.find_place.Lts as lts
 use Rattle.sheet.proofs.bind.start.Reads as start-reads
 use Rattle.sheet.proofs.lookup.item.Reads as item-reads
 use Rattle.sheet.proofs.lookup.order.Reads as order-reads
@@ -12,13 +12,13 @@ use native.Mathlib.Omega.{arith}
 use Prim.Native.Nat.{ℕ, _≤_, _-_, _+_}
 use lib.ListN.{length}
 use Rattle.rules.specs.Sheet.{Records}
-use Rattle.sheet.specs.Order.{asked}
+use Rattle.sheet.specs.Order.{underscoredIf}
 use Rattle.sheet.specs.Find.{item-holding, item-has, item-rest}
 use Rattle.sheet.specs.Mark.{Marked}
 use Rattle.sheet.specs.Place.{Placing, standing, standing-at, place-end, place-below, place-same, place-on}
 
 abbrev Inv-loop : tie.InvT-loop
-Inv-loop s last name reference i₀ i = (r : Records) → Marked s r last → Placing s r (asked reference name) i
+Inv-loop s last name reference i₀ i = (r : Records) → Marked s r last → Placing s r (underscoredIf reference name) i
 
 abbrev μ-loop : tie.MeasureT-loop
 μ-loop s last name reference i₀ i = length s - i
@@ -90,8 +90,8 @@ loop-again c =
 returns-3 : tie.Need-returns-3 Inv-loop μ-loop
 returns-3 c = λ r p. place-end (c .before .loop .inv r p) (search needs)
 
-pub spot-spec : {M : Type 1} → statement M
-spot-spec =
+pub find-place-spec : {M : Type 1} → statement M
+find-place-spec =
     tie.close
     (tie.spec
     Inv-loop

@@ -1,8 +1,8 @@
 use borrow.Author.Needs.{needs}
-use Rattle.sheet.proofs.check.suited.Statement.{statement}
-use Rattle.sheet.proofs.check.suited.Tie as tie
-use Rattle.sheet.proofs.check.suited.Reads as reads
-use Rattle.sheet.proofs.check.suited.Lts as lts
+use Rattle.sheet.proofs.check.keeps_rules.Statement.{statement}
+use Rattle.sheet.proofs.check.keeps_rules.Tie as tie
+use Rattle.sheet.proofs.check.keeps_rules.Reads as reads
+use Rattle.sheet.proofs.check.keeps_rules.Lts as lts
 use Rattle.sheet.proofs.lookup.order.Reads as order-reads
 use Rattle.scan.proofs.all.Reads as all-reads
 use Rattle.scan.proofs.is_ascii.Reads as is-ascii-reads
@@ -68,8 +68,8 @@ order-requires c κs = search needs
 returns-4 : tie.Need-returns-4
 returns-4 c = fits-order _ _ _ _ (sym (c .before .before .before .before .before .before .before .before .before .all .ensures) ∙ not-false _ (c .before .before .before .before .before .before .before .before .if1 .left)) (sym (c .before .before .before .before .before .before .is-ascii .ensures) ∙ not-false _ (c .before .before .before .before .before .if2 .left)) (not-false _ (c .before .before .before .if3 .left)) (c .order .ensures)
 
-pub suited-spec : {M : Type 1} → statement M
-suited-spec =
+pub keeps-rules-spec : {M : Type 1} → statement M
+keeps-rules-spec =
     tie.close
     (tie.spec
     sub-all
