@@ -31,7 +31,7 @@ overflow-requires-2 : tie.Need-overflow-requires-2
 overflow-requires-2 c κs = search needs
 
 returns-4 : tie.Need-returns-4
-returns-4 c = c .spill2 .ensures ∙ after-past _ _ _ (search needs) (c .before .if3 .left)
+returns-4 c = c .overflow2 .ensures ∙ after-past _ _ _ (search needs) (c .before .if3 .left)
 
 pub after-spec : {M : Type 1} → statement M
 after-spec =
