@@ -18,7 +18,7 @@ use Rattle.rules.specs.Laws.Answer.{bind-accepted}
 use Rattle.rules.specs.Laws.Sheet.{good-parts, get-good, set-good}
 use Rattle.rules.specs.Laws.Definitions.{get-name}
 use Rattle.sheet.specs.Parts.{Part, slice, part-slice}
-use Rattle.sheet.specs.Items.{At, IsItem, Holding, inner}
+use Rattle.sheet.specs.Items.{At, Describes, Holding, inner}
 use Rattle.sheet.specs.Order.{underscoredIf}
 use Rattle.sheet.specs.Find.{IsSheet, Level, Gives, Body, item-body, item-holding, item-rest}
 use Rattle.sheet.specs.Write.{Bindable, BindsTo, IsThere}
@@ -134,7 +134,7 @@ module _ {limit : ℕ} {a : Answer Records} {z : List ℕ} {i : ℕ} {c : List �
       go end e p = is-bound-length (k .so) e (k .holds)
       go (rec m w q) e p = absurd (omega (arith, p .ends))
 
-  module _ (k : Meeting limit a z i c n) {o : Item} (d : IsItem z i (k .m) (k .w) (k .q) (length z) o) {c′ : List ℕ} {x : Bound} (w : BindsTo c n limit (underscoredIf false (slice (o .from) (o .to) z)) (k .w) c′ x) where
+  module _ (k : Meeting limit a z i c n) {o : Item} (d : Describes z i (k .m) (k .w) (k .q) (length z) o) {c′ : List ℕ} {x : Bound} (w : BindsTo c n limit (underscoredIf false (slice (o .from) (o .to) z)) (k .w) c′ x) where
     met : IsBound limit (bindOne limit (k .so) (k .m) (k .w)) c′ x
     unfolding underscoredIf
     met =
@@ -162,8 +162,8 @@ module _ {z b : List ℕ} {n limit : ℕ} (p : Ready z b n limit) {c : List ℕ}
   pub all-bindable : Bindable c len limit
   all-bindable = holds-bindable (all-next .holds) (omega (arith, p .room, k .size)) (p .most)
 
-  module _ {o : Item} (d : (n : List ℕ) (v : Value) (r : Records) (j : ℕ) → Part z i (encode (rec n v r)) j → IsItem z i n v r j o) where
-    pub all-told : IsItem z i (all-next .m) (all-next .w) (all-next .q) (length z) o
+  module _ {o : Item} (d : (n : List ℕ) (v : Value) (r : Records) (j : ℕ) → Part z i (encode (rec n v r)) j → Describes z i n v r j o) where
+    pub all-told : Describes z i (all-next .m) (all-next .w) (all-next .q) (length z) o
     all-told = d _ _ _ _ (all-next .part)
 
     module _ (f : Found) (g : (v : Value) → Body z v o → Gives z (some v) f) where

@@ -13,7 +13,7 @@ use Rattle.rules.specs.Sheet.{Value, text, nothing, dictionary, Records, end, r
 use Rattle.rules.specs.Laws.Sheet.{good-parts, less-trans}
 use Rattle.sheet.specs.Parts.{Part, slice, part-split, part-slice}
 use Rattle.sheet.specs.Heads.{shapeKind, shapeText}
-use Rattle.sheet.specs.Items.{At, IsItem, Holding, Has, lead, inner, join, encode-join}
+use Rattle.sheet.specs.Items.{At, Describes, Holding, Has, lead, inner, join, encode-join}
 use Rattle.sheet.specs.Order.{orderOf, order-less, order-yes, order-no}
 use Rattle.sheet.specs.declared.head.Item.{Item}
 use Rattle.sheet.specs.declared.lookup.Found.{Found}
@@ -72,7 +72,7 @@ pub record HasBody (s : List ℕ) (o : Item) : Type 0 where
   pub v : Value
   pub body : Body s v o
 
-module _ {s : List ℕ} {i : ℕ} {n : List ℕ} {v : Value} {r : Records} {j : ℕ} {o : Item} (d : IsItem s i n v r j o) where
+module _ {s : List ℕ} {i : ℕ} {n : List ℕ} {v : Value} {r : Records} {j : ℕ} {o : Item} (d : Describes s i n v r j o) where
   parts : Part s (o .next) (encode (inner v)) (o .next + length (encode (inner v))) × Part s (o .next + length (encode (inner v))) (encode r) j
   parts = part-split s (o .next) (encode (inner v)) (encode r) j (rw encode-join at (d .rest))
 

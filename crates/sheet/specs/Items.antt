@@ -70,7 +70,7 @@ pub record At (s : List ℕ) (i : ℕ) : Type 0 where
   pub part : Part s i (encode (rec n v r)) j
 
 -- The item o tells of the record of a name n and a value v, behind which r stands up to j.
-pub record IsItem (s : List ℕ) (i : ℕ) (n : List ℕ) (v : Value) (r : Records) (j : ℕ) (o : Item) : Type 0 where
+pub record Describes (s : List ℕ) (i : ℕ) (n : List ℕ) (v : Value) (r : Records) (j : ℕ) (o : Item) : Type 0 where
   pub on : i < o .next
   pub name : Part s (o .from) n (o .to)
   pub sort : o .kind ≡ shapeKind (lead v)
@@ -100,7 +100,7 @@ module _ {s : List ℕ} {i : ℕ} (n : List ℕ) (v : Value) (r : Records) {j : 
       let z : _≡_ {A = ℕ} 0 1 = cc here in
       absurd (omega arith)
 
-  pub told : {h : Head} (o : Item) → Reads s i h → h ≡ Record o → IsItem s i n v r j o
+  pub told : {h : Head} (o : Item) → Reads s i h → h ≡ Record o → Describes s i n v r j o
   unfolding Reads
   told o w₀ e =
       let w : IsItem s i o = rw e at w₀ in
@@ -152,7 +152,7 @@ first-at {j = j} f = record { n = f .n; v = f .v; r = f .r; j = j; part = f .par
 pub left-small : {s : List ℕ} {i k j : ℕ} → Left s i k j → i + k ≤ length s
 left-small l = omega (arith, l .holds .number, l .holds .part .ends, l .holds .part .inside, count-le (l .r))
 
-pub left-on : {s : List ℕ} {i k j : ℕ} (f : First s i k j) {o : Item} → IsItem s i (f .n) (f .v) (f .r) j o → Left s (o .next) (k - 1 + o .count) j
+pub left-on : {s : List ℕ} {i k j : ℕ} (f : First s i k j) {o : Item} → Describes s i (f .n) (f .v) (f .r) j o → Left s (o .next) (k - 1 + o .count) j
 left-on f d = record { r = join (inner (f .v)) (f .r); holds = record { number = omega (arith, count-join (inner (f .v)) (f .r), d .number, f .number); part = d .rest } }
 
 pub left-end : {s : List ℕ} {i k j : ℕ} → Left s i k j → k ≤ 0 → i ≡ j

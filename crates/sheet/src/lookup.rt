@@ -12,7 +12,7 @@ ghost use Prim.Native.Nat.{ℕ};
 ghost use Rattle.rules.specs.Bytes.{word};
 ghost use Rattle.rules.specs.Sheet.{Value, Records, rec, encode, count, goodRecords, get, resolve};
 ghost use Rattle.sheet.specs.Parts.{Part};
-ghost use Rattle.sheet.specs.Items.{At, IsItem, Holding, Has};
+ghost use Rattle.sheet.specs.Items.{At, Describes, Holding, Has};
 ghost use Rattle.sheet.specs.Order.{underscoreIf, underscoredIf, orderOf};
 ghost use Rattle.sheet.specs.Place.{HasRecords};
 ghost use Rattle.sheet.specs.Find.{Gives, Body, HasBody, Level, IsSheet};
@@ -35,7 +35,7 @@ pub enum Found {
 // The record at a place where there is one.
 pub fn item(s: &[u8], i: usize) -> Item
     requires { ⌜ At (now s) i ⌝ }
-    ensures { λ o. ⌜ ((n : List ℕ) (v : Value) (r : Records) (j : ℕ) → Part (now (s .entry)) i (encode (rec n v r)) j → IsItem (now (s .entry)) i n v r j o) ⌝ }
+    ensures { λ o. ⌜ ((n : List ℕ) (v : Value) (r : Records) (j : ℕ) → Part (now (s .entry)) i (encode (rec n v r)) j → Describes (now (s .entry)) i n v r j o) ⌝ }
 {
     let Head::Record(o) = read(s, i, BINDING | ENTRY) else {
         return Item {
