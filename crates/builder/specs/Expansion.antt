@@ -20,7 +20,8 @@ use Rattle.rules.specs.Calls.{limit, zeros, padded, Expanded, expandedAnswer, p
 use Rattle.bundle.specs.Find.{entriesOf}
 use Rattle.buffers.specs.Laws.{stored-first}
 use Rattle.buffers.specs.Emits.{guarded, limited-guarded}
-use Rattle.sheet.specs.Use.{Checked, to-look, Holds, Keeps}
+use Rattle.sheet.specs.Use.{Checked, to-look}
+use Rattle.binding.specs.Use.{Holds, Keeps}
 use Rattle.expansion.specs.declared.Expanded.{Expanded as Ran}
 use Rattle.expansion.specs.Run.{Expands}
 use Rattle.builder.specs.Text.{RefusesBoth}

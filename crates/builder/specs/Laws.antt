@@ -18,7 +18,7 @@ use Rattle.rules.specs.Laws.Bool.{isSome, false-some}
 use Rattle.sheet.specs.declared.lookup.Found.{Found}
 use Rattle.sheet.specs.declared.lookup.Found.the-variants.{Missing, None, Text, Dictionary}
 use Rattle.sheet.specs.Use.{all-bytes, Checked, checked, to-look}
-use Rattle.sheet.specs.Order.{asked}
+use Rattle.sheet.specs.Order.{underscoredIf}
 use Rattle.sheet.specs.Find.{IsSheet, Gives, foundKind, foundText, gives-kind, gives-string}
 use Rattle.rules.specs.Run.{Emit}
 use Rattle.buffers.specs.Laws.{stored-first}
@@ -48,7 +48,7 @@ unfolding resolveOf resolveResult kindAnswer orRefuse check _>>=_ _>>_
 resolve-six s p b h a = rw (known s b h .of, a)
 
 module _ (s p : List ℕ) (bytes : (i : ℕ) → getD s i 0 < 256) (h : isSome (sheetOf s) ≡ true) (f : Found)
-    (told : (r : Records) → s ≡ encode r → goodRecords r word 6 ≡ true → Gives s (resolve r (asked false p)) f) where
+    (told : (r : Records) → s ≡ encode r → goodRecords r word 6 ≡ true → Gives s (resolve r (underscoredIf false p)) f) where
   gives : Gives s (resolve (known s bytes h .r) p) f
   unfolding asked
   gives = let x = known s bytes h in told (x .r) (x .bytes) (x .good)
@@ -85,7 +85,7 @@ pub refused-text : (v : Output) (k n : ℕ) (before after : List ℕ) (number le
 refused-text v k n before after number len e l r = e ∙ λ i. record { number = sym (r .says) i; len = sym (r .none) i; out = (ap zeros l ∙ sym (r .cleared)) i }
 
 module _ (s p : List ℕ) (bytes : (i : ℕ) → getD s i 0 < 256) (h : isSome (sheetOf s) ≡ true) (f : Found)
-    (told : (r : Records) → s ≡ encode r → goodRecords r word 6 ≡ true → Gives s (resolve r (asked false p)) f) where
+    (told : (r : Records) → s ≡ encode r → goodRecords r word 6 ≡ true → Gives s (resolve r (underscoredIf false p)) f) where
   pub string-within : (a b : ℕ) → TextAt f a b → Within s f a b
   string-within a b t = within s _ f a b (gives s p bytes h f told) t
 

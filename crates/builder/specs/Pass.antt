@@ -25,7 +25,7 @@ use Rattle.bundle.specs.Find.{entriesOf, entries-some}
 use Rattle.includes.specs.Resolve.{Resolves}
 use Rattle.includes.specs.Files.{ends-last}
 use Rattle.expansion.specs.declared.Expanded.{Expanded as Ran}
-use Rattle.sheet.specs.Use.{Keeps}
+use Rattle.binding.specs.Use.{Keeps}
 use Rattle.expansion.specs.Run.{Expands}
 use Rattle.builder.specs.declared.pass_call.Passed.{Passed}
 use Rattle.builder.specs.Given.{given, given-then, GoodArguments, good-given, Judges}

@@ -16,7 +16,7 @@ pub fn refusal(bundle: &[u8], folder: &[u8], text: &[u8], sheet: &[u8], limit: u
 {
     if !bundle::check(bundle) {
         2
-    } else if !sheet::check::check(sheet) {
+    } else if !sheet_layout::check(sheet) {
         3
     } else if !scan::paths::is_folder(folder) {
         4

@@ -51,7 +51,7 @@ fn kind(found: Found) -> u8
 pub fn resolve(sheet: &[u8], path: &[u8]) -> Resolved
     ensures { λ r. ⌜ resolveOf (now (sheet .entry)) (now (path .entry)) ≡ record { number = r .number; kind = r .kind } ⌝ }
 {
-    if !sheet::check::check(sheet) {
+    if !sheet_layout::check(sheet) {
         return Resolved { number: 3, kind: 0 };
     }
     if !scan::is_ascii(path) {
@@ -114,7 +114,7 @@ fn give(text: &[u8], out: &mut [u8]) -> Text
 pub fn resolve_string(sheet: &[u8], path: &[u8], out: &mut [u8]) -> Text
     ensures { λ r. ⌜ resolveStringOf (now (sheet .entry)) (now (path .entry)) (length (now (out .entry))) ≡ record { number = r .number; len = r .len; out = now (out .exit) } ⌝ }
 {
-    if !sheet::check::check(sheet) {
+    if !sheet_layout::check(sheet) {
         return no_text(out, 3);
     }
     if !scan::is_ascii(path) {

@@ -26,10 +26,10 @@ use Rattle.scan.specs.Stretches.{spans-but}
 use Rattle.buffers.specs.Laws.{take-sets, stored-first}
 use Rattle.buffers.specs.Emits.{guard, guarded, limited-guarded}
 use Rattle.sheet.specs.Find.{IsSheet}
-use Rattle.sheet.specs.Mark.{Mark, mark-start}
-use Rattle.sheet.specs.Use.{Holds, holds-sheet, Keeps, keeps-holds}
-use Rattle.sheet.specs.declared.bind.Bound.{Bound}
-use Rattle.sheet.specs.declared.bind.Bound.the-variants.{Over, Length}
+use Rattle.binding.specs.Mark.{Mark, mark-start}
+use Rattle.binding.specs.Use.{Holds, holds-sheet, Keeps, keeps-holds}
+use Rattle.binding.specs.declared.Bound.{Bound}
+use Rattle.binding.specs.declared.Bound.the-variants.{Over, Length}
 use Rattle.values.specs.Values.{slots, Room, room-two, room-behind, lent, lent-size, lent-first}
 use Rattle.definitions.specs.Names.{Ready, IsBound, BindsNames}
 use Rattle.definitions.specs.Steps.{Comes, DefinesLet, within}

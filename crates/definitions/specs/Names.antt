@@ -8,6 +8,7 @@ use native.Mathlib.Omega.{arith}
 use lib.ListN.{length, take, drop-of-length-le}
 use lib.Seq.{length-take-le}
 use borrow.Author.Tests.{le-leb, lt-leb}
+use Rattle.scan.specs.Sets.{part}
 use Rattle.rules.specs.Answer.{Answer, refused, accepted, _>>=_, _>>_, check}
 use Rattle.rules.specs.Reader.{all}
 use Rattle.rules.specs.Bytes.{word}
@@ -17,17 +18,18 @@ use Rattle.rules.specs.Imports.{bindOne, bindIf, bindAll, bindListed, bindNames
 use Rattle.rules.specs.Laws.Answer.{bind-accepted}
 use Rattle.rules.specs.Laws.Sheet.{good-parts, get-good, set-good}
 use Rattle.rules.specs.Laws.Definitions.{get-name}
-use Rattle.sheet.specs.Parts.{Part, slice, part-slice}
+use Rattle.sheet.specs.Parts.{Part, part-slice}
 use Rattle.sheet.specs.Items.{At, Describes, Holding, inner}
 use Rattle.sheet.specs.Order.{underscoredIf}
 use Rattle.sheet.specs.Find.{IsSheet, Level, Gives, Body, item-body, item-holding, item-rest}
-use Rattle.sheet.specs.Write.{Bindable, BindsTo, IsThere}
-use Rattle.sheet.specs.Use.{Holds, holds-sheet, found-there, to-bind, bound-bytes, over-long}
+use Rattle.binding.specs.Write.{Bindable, BindsTo, IsThere}
+use Rattle.sheet.specs.Use.{found-there}
+use Rattle.binding.specs.Use.{Holds, holds-sheet, to-bind, bound-bytes, over-long}
 use Rattle.sheet.specs.declared.head.Item.{Item}
 use Rattle.sheet.specs.declared.lookup.Found.{Found}
 use Rattle.sheet.specs.declared.lookup.Found.the-variants.{Missing}
-use Rattle.sheet.specs.declared.bind.Bound.{Bound}
-use Rattle.sheet.specs.declared.bind.Bound.the-variants.{Over, Length}
+use Rattle.binding.specs.declared.Bound.{Bound}
+use Rattle.binding.specs.declared.Bound.the-variants.{Over, Length}
 
 -- The first n bytes of b are a sheet, which may grow up to the limit; z is another.
 pub record Ready (z b : List ℕ) (n limit : ℕ) : Type 0 where
@@ -134,7 +136,7 @@ module _ {limit : ℕ} {a : Answer Records} {z : List ℕ} {i : ℕ} {c : List �
       go end e p = is-bound-length (k .so) e (k .holds)
       go (rec m w q) e p = absurd (omega (arith, p .ends))
 
-  module _ (k : Meeting limit a z i c n) {o : Item} (d : Describes z i (k .m) (k .w) (k .q) (length z) o) {c′ : List ℕ} {x : Bound} (w : BindsTo c n limit (underscoredIf false (slice (o .from) (o .to) z)) (k .w) c′ x) where
+  module _ (k : Meeting limit a z i c n) {o : Item} (d : Describes z i (k .m) (k .w) (k .q) (length z) o) {c′ : List ℕ} {x : Bound} (w : BindsTo c n limit (underscoredIf false (part z (o .from) (o .to))) (k .w) c′ x) where
     met : IsBound limit (bindOne limit (k .so) (k .m) (k .w)) c′ x
     unfolding underscoredIf
     met =
@@ -170,7 +172,7 @@ module _ {z b : List ℕ} {n limit : ℕ} (p : Ready z b n limit) {c : List ℕ}
       pub all-there : IsThere z f
       all-there = record { v = all-next .w; gives = g (all-next .w) (item-body all-told) }
 
-      module _ {c′ : List ℕ} {x : Bound} (w : (v : Value) → Gives z (some v) f → BindsTo c len limit (underscoredIf false (slice (o .from) (o .to) z)) v c′ x) where
+      module _ {c′ : List ℕ} {x : Bound} (w : (v : Value) → Gives z (some v) f → BindsTo c len limit (underscoredIf false (part z (o .from) (o .to))) v c′ x) where
         pub all-size : length c′ ≡ length b
         all-size = w _ (all-there .gives) .long ∙ k .size
 

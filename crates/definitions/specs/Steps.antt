@@ -19,12 +19,12 @@ use Rattle.rules.specs.Laws.Values.{numberedOr, didHas, reads-definition}
 use Rattle.scan.specs.Sets.{part, Spans}
 use Rattle.buffers.specs.Emits.{guard, guard-yes, guard-no}
 use Rattle.sheet.specs.Order.{underscoredIf}
-use Rattle.sheet.specs.Place.{Between}
-use Rattle.sheet.specs.Mark.{Mark, Marked, mark-of}
-use Rattle.sheet.specs.Write.{IsSource, BindsAt}
-use Rattle.sheet.specs.Use.{Holds, holds-sheet, Keeps, keeps-holds, leaves-bytes, leaves-over}
-use Rattle.sheet.specs.declared.bind.Put.{Put}
-use Rattle.sheet.specs.declared.bind.Bound.the-variants.{Over, Length}
+use Rattle.binding.specs.Place.{Between}
+use Rattle.binding.specs.Mark.{Mark, Marked, mark-of}
+use Rattle.binding.specs.Write.{IsSource, BindsAt}
+use Rattle.binding.specs.Use.{Holds, holds-sheet, Keeps, keeps-holds, leaves-bytes, leaves-over}
+use Rattle.binding.specs.declared.Put.{Put}
+use Rattle.binding.specs.declared.Bound.the-variants.{Over, Length}
 use Rattle.values.specs.declared.ValueRead.{ValueRead}
 use Rattle.values.specs.Values.{Taken, ReadsValue}
 use Rattle.definitions.specs.declared.steps.Stepped.{Stepped}

@@ -14,8 +14,8 @@ use Rattle.rules.specs.Laws.Entries.{word-moving}
 use Rattle.rules.specs.Laws.Enough.{rounds-again, rounds-stop}
 use Rattle.scan.specs.Sets.{part, Spans, Starts}
 use Rattle.scan.specs.Laws.{mark-yes, mark-no, mark-of, prefix-split}
-use Rattle.sheet.specs.declared.bind.Bound.{Bound}
-use Rattle.sheet.specs.declared.bind.Bound.the-variants.{Over, Length}
+use Rattle.binding.specs.declared.Bound.{Bound}
+use Rattle.binding.specs.declared.Bound.the-variants.{Over, Length}
 use Rattle.definitions.specs.Names.{Ready, BindsNames, names-as, none-bound, names-over, names-then, ready-on}
 
 -- The words that `names` reads where no `*` stands.

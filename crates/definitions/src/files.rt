@@ -4,7 +4,7 @@ use crate::imports::find_import;
 use crate::names::bind_names;
 use crate::steps::Stepped;
 use crate::steps::let_step;
-use sheet::bind::Bound;
+use binding::Bound;
 ghost use mathlib.Core.Path.{_≡_};
 ghost use mathlib.Core.Bool.{true, false};
 ghost use Prim.Native.Nat.{ℕ, _+_, _≤_, _<_};
@@ -22,8 +22,8 @@ ghost use Rattle.rules.specs.Laws.Bool.{isSome};
 ghost use Rattle.scan.specs.Sets.{Starts};
 ghost use Rattle.bundle.specs.Find.{entriesOf};
 ghost use Rattle.values.specs.Values.{Room};
-ghost use Rattle.sheet.specs.Use.{Keeps};
-ghost use Rattle.sheet.specs.Mark.{Mark};
+ghost use Rattle.binding.specs.Use.{Keeps};
+ghost use Rattle.binding.specs.Mark.{Mark};
 ghost use Rattle.definitions.specs.File.{stepped, boundStep, Steps, Swap, BindsImported, Parses};
 
 // A step that goes on at a place, or is refused.

@@ -1,6 +1,6 @@
 // Binding the names of an import (document 01, section 7).
 use scan::Set;
-use sheet::bind::Bound;
+use binding::Bound;
 use sheet::lookup::Found;
 use sheet::lookup::item;
 use sheet::lookup::skip;
@@ -26,7 +26,7 @@ fn bind_all(other: &[u8], left: &mut [u8], n: usize, limit: usize) -> Bound
         let to = o.to;
         let end = skip(other, o.next, o.count);
         let v = value(other, o);
-        let bound = sheet::bind::bind_from(left, len, limit, &other[from..to], false, other, v);
+        let bound = binding::bind_from(left, len, limit, &other[from..to], false, other, v);
         let Bound::Length(k) = bound else {
             return Bound::Over;
         };
@@ -44,7 +44,7 @@ fn bind_word(word: &[u8], other: &[u8], left: &mut [u8], n: usize, limit: usize)
     let found = sheet::lookup::find(other, 0, other.len(), word, false);
     match found {
         Found::Missing => Bound::Length(n),
-        _ => sheet::bind::bind_from(left, n, limit, word, false, other, found),
+        _ => binding::bind_from(left, n, limit, word, false, other, found),
     }
 }
 

@@ -1,15 +1,15 @@
 // The step `#let` of a file of definitions, from behind its mark.
 use scan::Set;
-use sheet::bind::Bound;
+use binding::Bound;
 ghost use mathlib.Core.Path.{_≡_};
 ghost use mathlib.Core.Bool.{true};
 ghost use Prim.Native.Nat.{_≤_};
 ghost use lib.ListN.{length, take};
 ghost use Rattle.rules.specs.Reader.{all};
 ghost use Rattle.rules.specs.Bytes.{ascii};
-ghost use Rattle.sheet.specs.Mark.{Mark};
+ghost use Rattle.binding.specs.Mark.{Mark};
 ghost use Rattle.values.specs.Values.{Room};
-ghost use Rattle.sheet.specs.Use.{Keeps};
+ghost use Rattle.binding.specs.Use.{Keeps};
 ghost use Rattle.definitions.specs.Steps.{DefinesLet};
 
 // What a step came to: is nothing refused; if something is, the refusal's number; where reading goes on, the sheet's length, and where
@@ -49,7 +49,7 @@ pub fn let_step(
         };
     }
     let len = v.len;
-    let o = sheet::bind::bind_value_at(
+    let o = binding::bind_value_at(
         left,
         n,
         last,

@@ -18,12 +18,13 @@ use Rattle.scan.specs.Paths.{Trims}
 use Rattle.scan.specs.declared.paths.Range.{Range}
 use Rattle.sheet.specs.Order.{underscoredIf}
 use Rattle.sheet.specs.Find.{IsSheet, Gives}
-use Rattle.sheet.specs.Write.{BindsTo, IsThere}
-use Rattle.sheet.specs.Use.{Holds, found-there, bound-bytes, over-long}
+use Rattle.binding.specs.Write.{BindsTo, IsThere}
+use Rattle.sheet.specs.Use.{found-there}
+use Rattle.binding.specs.Use.{Holds, bound-bytes, over-long}
 use Rattle.sheet.specs.declared.lookup.Found.{Found}
 use Rattle.sheet.specs.declared.lookup.Found.the-variants.{Missing, None, Text, Dictionary}
-use Rattle.sheet.specs.declared.bind.Bound.{Bound}
-use Rattle.sheet.specs.declared.bind.Bound.the-variants.{Over, Length}
+use Rattle.binding.specs.declared.Bound.{Bound}
+use Rattle.binding.specs.declared.Bound.the-variants.{Over, Length}
 use Rattle.expansion.specs.declared.steps.Line.{Line}
 use Rattle.expansion.specs.declared.steps.Let.{Let}
 

@@ -19,7 +19,7 @@ use Rattle.expansion.specs.declared.call_steps.WriteStep.{WriteStep}
 use Rattle.expansion.specs.declared.steps.Let.{Let}
 use Rattle.expansion.specs.declared.steps.Went.{Went}
 use Rattle.expansion.specs.declared.step.Stepped.{Stepped}
-use Rattle.sheet.specs.Use.{Holds, holds-sheet}
+use Rattle.binding.specs.Use.{Holds, holds-sheet}
 use Rattle.expansion.specs.Let.{Imports, Lets}
 use Rattle.expansion.specs.Reference.{Refers}
 use Rattle.expansion.specs.Call.{Does, StepsBy}

@@ -9,7 +9,7 @@ ghost use Rattle.rules.specs.Bundle.{bundleOf};
 ghost use Rattle.rules.specs.Files.{view};
 ghost use Rattle.rules.specs.Laws.Bool.{isSome};
 ghost use Rattle.bundle.specs.Find.{entriesOf};
-ghost use Rattle.sheet.specs.Use.{Keeps};
+ghost use Rattle.binding.specs.Use.{Keeps};
 ghost use Rattle.expansion.specs.Run.{Expands};
 
 pub mod call_steps;

@@ -1,7 +1,7 @@
 // The steps of the expansion that call neither `raw` nor `link`. Each reads from behind its mark.
 use scan::Set;
 use scan::paths::trim;
-use sheet::bind::Bound;
+use binding::Bound;
 use sheet::lookup::Found;
 ghost use mathlib.Core.Path.{_≡_};
 ghost use mathlib.Core.Bool.{true};
@@ -11,7 +11,7 @@ ghost use Rattle.rules.specs.Reader.{all};
 ghost use Rattle.rules.specs.Bytes.{ascii};
 ghost use Rattle.buffers.specs.Put.{Writer};
 ghost use Rattle.sheet.specs.Find.{IsSheet};
-ghost use Rattle.sheet.specs.Write.{Bindable};
+ghost use Rattle.binding.specs.Write.{Bindable};
 ghost use Rattle.expansion.specs.Let.{Imports, IsLine, BindsLine, Lets};
 ghost use Rattle.expansion.specs.Reference.{Refers};
 
@@ -60,8 +60,8 @@ fn bind_line(left: &mut [u8], n: usize, limit: usize, name: &[u8], content: &[u8
 {
     let found = sheet::lookup::lookup(&left[..n], content, false);
     match found {
-        Found::Missing => sheet::bind::bind_text(left, n, limit, name, true, content),
-        _ => sheet::bind::bind_found(left, n, limit, name, true, found),
+        Found::Missing => binding::bind_text(left, n, limit, name, true, content),
+        _ => binding::bind_found(left, n, limit, name, true, found),
     }
 }
 

@@ -7,11 +7,12 @@ use Prim.Native.Nat.{ℕ, zero, suc, _+_, _-_, _≤_, _<_}
 use native.Mathlib.Omega.{arith}
 use lib.Dec.{eqb}
 use lib.ListN.{length, take, drop, getD}
+use Rattle.scan.specs.Sets.{part}
 use Rattle.rules.specs.Reader.{same}
 use Rattle.rules.specs.Bytes.{word, less}
 use Rattle.rules.specs.Sheet.{Value, text, nothing, dictionary, Records, end, rec, encode, count, before, goodRecords, get, kindOf, textOf}
 use Rattle.rules.specs.Laws.Sheet.{good-parts, less-trans}
-use Rattle.sheet.specs.Parts.{Part, slice, part-split, part-slice}
+use Rattle.sheet.specs.Parts.{Part, part-split, part-slice}
 use Rattle.sheet.specs.Heads.{shapeKind, shapeText}
 use Rattle.sheet.specs.Items.{At, Describes, Holding, Has, lead, inner, join, encode-join}
 use Rattle.sheet.specs.Order.{orderOf, order-less, order-yes, order-no}
@@ -19,6 +20,10 @@ use Rattle.sheet.specs.declared.head.Item.{Item}
 use Rattle.sheet.specs.declared.lookup.Found.{Found}
 use Rattle.sheet.specs.declared.lookup.Found.the-variants.{Missing, None, Text, Dictionary}
 
+-- The bytes of some records.
+pub record HasRecords (s : List ℕ) : Type 0 where
+  pub r : Records
+  pub bytes : s ≡ encode r
 -- The bytes of good records.
 pub record IsSheet (s : List ℕ) : Type 0 where
   pub r : Records
@@ -42,7 +47,7 @@ foundKind (Dictionary a b n) = 3
 unfoldable pub foundText : List ℕ → Found → List ℕ
 foundText s Missing = []
 foundText s None = []
-foundText s (Text a b) = slice a b s
+foundText s (Text a b) = part s a b
 foundText s (Dictionary a b n) = []
 
 pub gives-kind : (s : List ℕ) (x : Option Value) (f : Found) → Gives s x f → foundKind f ≡ kindOf x
@@ -180,7 +185,7 @@ seek-end {s} {i} {e} {r} {name} k h = go (k .left .r) (k .left .part) (k .same)
     go end p f = f
     go (rec n v q) p f = absurd (omega (arith, p .ends))
 
-module _ {s : List ℕ} {i e : ℕ} {r : Records} {name : List ℕ} (k : Sought s i e r name) {a b c : ℕ} (p : Part s a (k .n) b) (h : c ≡ orderOf (slice a b s) name) where
+module _ {s : List ℕ} {i e : ℕ} {r : Records} {name : List ℕ} (k : Sought s i e r name) {a b c : ℕ} (p : Part s a (k .n) b) (h : c ≡ orderOf (part s a b) name) where
   order-is : orderOf (k .n) name ≡ c
   order-is = sym (h ∙ ap (λ z. orderOf z name) (part-slice p))
 

@@ -13,11 +13,11 @@ use lib.Dec.{eqb, ltb}
 use lib.ListN.{length, take, drop, getD, length-drop, length-append, drop-of-length-le}
 use lib.Seq.{drop-cons, drop-drop}
 use borrow.Author.Tests.{eq-eqb, ne-eqb, eqb-true, eqb-false, ltb-true, ltb-false}
+use Rattle.scan.specs.Sets.{part}
 use Rattle.rules.specs.Reader.{empty}
 use Rattle.rules.specs.Layout.{Parser, bind, _>>=_, _>>_, pure, broken, require, bit, byte, word16, takeBytes, field, fieldIf}
 use Rattle.rules.specs.Laws.Bool.{or-elim, or-false-l, or-false-r}
 use Rattle.rules.specs.Laws.Layout.{word-at, word-end, takes, takes-short, take-some}
-use Rattle.sheet.specs.Parts.{slice}
 use Rattle.sheet.specs.declared.head.Head.{Head}
 use Rattle.sheet.specs.declared.head.Head.the-variants.{Bad, Record}
 use Rattle.sheet.specs.declared.head.Item.{Item}
@@ -79,7 +79,7 @@ wordAt s at = getD s at 0 + 256 * getD s (at + 1) 0
 pub record IsField (s : List ℕ) (at r : ℕ) : Type 0 where
   pub missing : r ≡ 0 → field word16 (drop at s) ≡ none
   pub inside : (r ≡ 0 → ⊥) → at + 2 + r ≤ length s
-  pub is : (r ≡ 0 → ⊥) → field word16 (drop at s) ≡ some (slice (at + 2) (at + 2 + r) s, drop (at + 2 + r) s)
+  pub is : (r ≡ 0 → ⊥) → field word16 (drop at s) ≡ some (part s (at + 2) (at + 2 + r), drop (at + 2 + r) s)
 
 -- The item o tells of the value at a place, which the map byte m names.
 pub record IsValue (s : List ℕ) (m to : ℕ) (o : Item) : Type 0 where
@@ -89,7 +89,7 @@ pub record IsValue (s : List ℕ) (m to : ℕ) (o : Item) : Type 0 where
   pub on : o .at ≤ o .next
   pub inside : o .next ≤ length s
   pub sort : o .kind ≡ shapeKind v
-  pub text : slice (o .at) (o .next) s ≡ shapeText v
+  pub text : part s (o .at) (o .next) ≡ shapeText v
   pub number : o .count ≡ shapeCount v
 
 unfoldable pub ValueReads : List ℕ → ℕ → ℕ → ℕ → Head → Type 0
@@ -99,14 +99,14 @@ ValueReads s m from to (Record o) = (o .from ≡ from) × (o .to ≡ to) × IsVa
 -- The item o tells of the record at a place.
 pub record IsItem (s : List ℕ) (i : ℕ) (o : Item) : Type 0 where
   pub v : Shape
-  pub is : head (drop i s) ≡ some ((slice (o .from) (o .to) s, v), drop (o .next) s)
+  pub is : head (drop i s) ≡ some ((part s (o .from) (o .to), v), drop (o .next) s)
   pub past : i < o .from
   pub name : o .from ≤ o .to
   pub behind : o .to ≤ o .at
   pub on : o .at ≤ o .next
   pub inside : o .next ≤ length s
   pub sort : o .kind ≡ shapeKind v
-  pub text : slice (o .at) (o .next) s ≡ shapeText v
+  pub text : part s (o .at) (o .next) ≡ shapeText v
   pub number : o .count ≡ shapeCount v
 
 unfoldable pub Reads : List ℕ → ℕ → Head → Type 0
@@ -276,7 +276,7 @@ shape-nothing : (k : ℕ) (b : List ℕ) → k ≡ 4 → shape k b ≡ some (abs
 unfolding shape pure
 shape-nothing k b e = rw e refl
 
-slice-none : (f : ℕ) (s : List ℕ) → slice f f s ≡ []
+slice-none : (f : ℕ) (s : List ℕ) → part s f f ≡ []
 slice-none f s = let e : f - f ≡ 0 = omega arith in rw e refl
 
 module _ (s : List ℕ) (m from to : ℕ) (g : goodMap m ≡ true) where
@@ -287,7 +287,7 @@ module _ (s : List ℕ) (m from to : ℕ) (g : goodMap m ≡ true) where
     refl,
     refl,
     record {
-      v = plain (slice (to + 2) (to + 2 + k) s);
+      v = plain (part s (to + 2) (to + 2 + k));
       is = shape-text (m / 2) (drop to s) (is-text m g h) ∙ rw (f .is z) refl;
       behind = omega arith;
       on = omega arith;
@@ -401,7 +401,7 @@ module _ (s : List ℕ) (i : ℕ) (l : i < length s) where
       let b = or-false-l (eqb k 0 || eqb k 1) (eqb k 2) a in
       opened ∙ bind-none (fieldIf (bit 0 (getD s i 0)) word16 (drop (i + 1) s)) (λ n. bind (shape k (n .1)) (λ v. some ((n .0, v .0), v .1))) (λ n. rw (shape-broken k (n .1) (or-false-l (eqb k 0) (eqb k 1) b) (or-false-r (eqb k 0) (eqb k 1) b) (or-false-r (eqb k 0 || eqb k 1) (eqb k 2) a) (or-false-r ((eqb k 0 || eqb k 1) || eqb k 2) (eqb k 4) h)) refl)
 
-  reads-value : (h : Head) {from to : ℕ} → i < from → from ≤ to → fieldIf (bit 0 (getD s i 0)) word16 (drop (i + 1) s) ≡ some (slice from to s, drop to s) → ValueReads s (getD s i 0) from to h → Reads s i h
+  reads-value : (h : Head) {from to : ℕ} → i < from → from ≤ to → fieldIf (bit 0 (getD s i 0)) word16 (drop (i + 1) s) ≡ some (part s from to, drop to s) → ValueReads s (getD s i 0) from to h → Reads s i h
   unfolding Reads ValueReads bind
   reads-value Bad p q n e = opened ∙ rw n (rw e refl)
   reads-value (Record o) {from} {to} p q n e =

@@ -7,10 +7,11 @@ use Prim.Native.Nat.{ℕ, zero, suc, _+_, _-_, _/_, _≤_, _<_}
 use native.Mathlib.Omega.{arith}
 use lib.ListN.{length, take, drop}
 use lib.Seq.{take-append-seam, drop-append-seam}
+use Rattle.scan.specs.Sets.{part}
 use Rattle.rules.specs.Layout.{bind, _>>=_, _>>_, pure, byte}
 use Rattle.rules.specs.Sheet.{Value, text, nothing, dictionary, Records, end, rec, fieldBytes, fieldMask, count, valueMask, valueBytes, encode}
 use Rattle.rules.specs.Laws.Sheet.{word16-read, field-read, map-byte, name-read, count-le}
-use Rattle.sheet.specs.Parts.{Part, slice, slice-part, part-of, part-cast}
+use Rattle.sheet.specs.Parts.{Part, slice-part, part-of, part-cast}
 use Rattle.sheet.specs.Heads.{Shape, plain, absent, holding, shapeKind, shapeText, shapeCount, shape, head, IsItem, Reads}
 use Rattle.sheet.specs.declared.head.Head.{Head}
 use Rattle.sheet.specs.declared.head.Head.the-variants.{Bad, Record}
@@ -104,7 +105,7 @@ module _ {s : List ℕ} {i : ℕ} (n : List ℕ) (v : Value) (r : Records) {j : 
   unfolding Reads
   told o w₀ e =
       let w : IsItem s i o = rw e at w₀ in
-      let q = heads-same (slice (o .from) (o .to) s) n (w .v) (lead v) (drop (o .next) s) (encode (join (inner v) r) ++ drop j s) (sym (w .is) ∙ here) in
+      let q = heads-same (part s (o .from) (o .to)) n (w .v) (lead v) (drop (o .next) s) (encode (join (inner v) r) ++ drop j s) (sym (w .is) ∙ here) in
       record {
         on = omega (arith, w .past, w .name, w .behind, w .on);
         name = rw (q .0) at (slice-part s (o .from) (o .to) (w .name) (omega (arith, w .behind, w .on, w .inside)));

@@ -4,9 +4,5 @@ pub mod Items
 pub mod Order
 pub mod Find
 pub mod Look
-pub mod Check
-pub mod Place
-pub mod Mark
-pub mod Moves
-pub mod Write
+pub mod Count
 pub mod Use

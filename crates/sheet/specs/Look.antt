@@ -17,10 +17,10 @@ use Rattle.rules.specs.Sheet.{Value, text, nothing, dictionary, Records, encode
 use Rattle.rules.specs.Laws.Bool.{and-l, and-r}
 use Rattle.rules.specs.Laws.Texts.{all-append}
 use Rattle.rules.specs.Laws.Sheet.{get-good}
-use Rattle.scan.specs.Sets.{Spans}
+use Rattle.scan.specs.Sets.{Spans, part}
 use Rattle.scan.specs.Laws.{but-yes, but-no}
 use Rattle.scan.specs.Stretches.{span-took, spans-stop}
-use Rattle.sheet.specs.Parts.{Part, slice, slice-part}
+use Rattle.sheet.specs.Parts.{Part, slice-part}
 use Rattle.sheet.specs.Order.{underscoreIf, underscoredIf, underscoredIf-length, underscoredIf-slice, underscoredIf-dot, underscoredIf-getD, underscoreIf-dot}
 use Rattle.sheet.specs.Find.{Gives, Level}
 use Rattle.sheet.specs.declared.lookup.Found.{Found}
@@ -30,7 +30,7 @@ use Rattle.sheet.specs.declared.lookup.Found.the-variants.{Missing, None
 pub record UpToDot (t : List ℕ) (p q : ℕ) : Type 0 where
   pub on : p ≤ q
   pub inside : q ≤ length t
-  pub none : all (but ".") (slice p q t) ≡ true
+  pub none : all (but ".") (part t p q) ≡ true
   pub at : q < length t → but "." (getD t q 0) ≡ false
 
 -- What `span` answers.
@@ -47,7 +47,7 @@ pub dot-underscoredIf : (b : Bool) (t : List ℕ) {p q : ℕ} → UpToDot t p q 
 dot-underscoredIf b t {p} {q} d = record {
   on = d .on;
   inside = omega (arith, d .inside, underscoredIf-length b t);
-  none = rw (← underscoredIf-slice b p q t) (underscoredIf-dot b (slice p q t) ∙ d .none);
+  none = rw (← underscoredIf-slice b p q t) (underscoredIf-dot b (part t p q) ∙ d .none);
   at = λ l. let h : q < length t = omega (arith, underscoredIf-length b t) in rw (underscoredIf-getD b t q h) (underscoreIf-dot b (getD t q 0) ∙ d .at h);
 }
 
@@ -64,16 +64,16 @@ split-last [] h = refl
 split-last (y ∷ a) h = rw (but-yes "." y (and-l (but "." y) (all (but ".") a) h), split) (rw (split-last a (and-r (but "." y) (all (but ".") a) h)) refl)
 
 module _ {t : List ℕ} {p q : ℕ} (d : UpToDot t p q) where
-  rest-is : drop p t ≡ slice p q t ++ drop q t
+  rest-is : drop p t ≡ part t p q ++ drop q t
   rest-is = slice-part t p q (d .on) (d .inside) .bytes
 
-  pub pieces-last : length t ≤ q → split "." (drop p t) ≡ slice p q t ∷ []
+  pub pieces-last : length t ≤ q → split "." (drop p t) ≡ part t p q ∷ []
   pieces-last h =
-      let e : drop p t ≡ slice p q t = rest-is ∙ rw (drop-of-length-le t h) (append-nil (slice p q t)) in
-      ap (split ".") e ∙ split-last (slice p q t) (d .none)
+      let e : drop p t ≡ part t p q = rest-is ∙ rw (drop-of-length-le t h) (append-nil (part t p q)) in
+      ap (split ".") e ∙ split-last (part t p q) (d .none)
 
-  pub pieces-dot : q < length t → split "." (drop p t) ≡ slice p q t ∷ split "." (drop (q + 1) t)
-  pieces-dot h = ap (split ".") (rest-is ∙ rw (add-one, drop-cons t q 0) refl) ∙ split-dot (slice p q t) (drop (q + 1) t) (getD t q 0) (d .none) (d .at h)
+  pub pieces-dot : q < length t → split "." (drop p t) ≡ part t p q ∷ split "." (drop (q + 1) t)
+  pieces-dot h = ap (split ".") (rest-is ∙ rw (add-one, drop-cons t q 0) refl) ∙ split-dot (part t p q) (drop (q + 1) t) (getD t q 0) (d .none) (d .at h)
 
 -- A list that is not empty.
 pub record Full (ks : List (List ℕ)) : Type 0 where
@@ -147,28 +147,28 @@ module _ {s : List ℕ} {at e p q : ℕ} {r : Records} (b : Bool) (path : List �
   u : UpToDot (underscoredIf b path) p q
   u = dot-underscoredIf b path u₀
 
-  pub walk-last : (f : Found) → q ≡ length path → Gives s (get (w .level .r) (underscoredIf b (slice p q path))) f → Gives s (resolve r (underscoredIf b path)) f
+  pub walk-last : (f : Found) → q ≡ length path → Gives s (get (w .level .r) (underscoredIf b (part path p q))) f → Gives s (resolve r (underscoredIf b path)) f
   walk-last f h g =
-      let i : resolve r (underscoredIf b path) ≡ get (w .level .r) (underscoredIf b (slice p q path)) = w .same ∙ ap (getPieces (w .level .r)) (pieces-last u (omega (arith, underscoredIf-length b path))) ∙ pieces-one (w .level .r) (slice p q (underscoredIf b path)) ∙ ap (get (w .level .r)) (sym (underscoredIf-slice b p q path)) in
+      let i : resolve r (underscoredIf b path) ≡ get (w .level .r) (underscoredIf b (part path p q)) = w .same ∙ ap (getPieces (w .level .r)) (pieces-last u (omega (arith, underscoredIf-length b path))) ∙ pieces-one (w .level .r) (part (underscoredIf b path) p q) ∙ ap (get (w .level .r)) (sym (underscoredIf-slice b p q path)) in
       subst (λ z. Gives s z f) (sym i) g
 
   module _ (h : q < length path) where
-    more : resolve r (underscoredIf b path) ≡ getPieces (w .level .r) (underscoredIf b (slice p q path) ∷ split "." (drop (q + 1) (underscoredIf b path)))
+    more : resolve r (underscoredIf b path) ≡ getPieces (w .level .r) (underscoredIf b (part path p q) ∷ split "." (drop (q + 1) (underscoredIf b path)))
     more = w .same ∙ ap (getPieces (w .level .r)) (pieces-dot u (omega (arith, underscoredIf-length b path)) ∙ ap (λ z. z ∷ split "." (drop (q + 1) (underscoredIf b path))) (sym (underscoredIf-slice b p q path)))
 
-    pub walk-stop : (f : Found) → ((a c n : ℕ) → f ≡ Dictionary a c n → ⊥) → Gives s (get (w .level .r) (underscoredIf b (slice p q path))) f → Gives s (resolve r (underscoredIf b path)) Missing
+    pub walk-stop : (f : Found) → ((a c n : ℕ) → f ≡ Dictionary a c n → ⊥) → Gives s (get (w .level .r) (underscoredIf b (part path p q))) f → Gives s (resolve r (underscoredIf b path)) Missing
     unfolding Gives
-    walk-stop Missing y g = more ∙ pieces-missing _ (split-full (drop (q + 1) (underscoredIf b path))) (w .level .r) (underscoredIf b (slice p q path)) g
-    walk-stop None y g = more ∙ pieces-none _ (split-full (drop (q + 1) (underscoredIf b path))) (w .level .r) (underscoredIf b (slice p q path)) g
-    walk-stop (Text a c) y g = more ∙ pieces-text _ (split-full (drop (q + 1) (underscoredIf b path))) (w .level .r) (underscoredIf b (slice p q path)) (g .0) (g .1)
+    walk-stop Missing y g = more ∙ pieces-missing _ (split-full (drop (q + 1) (underscoredIf b path))) (w .level .r) (underscoredIf b (part path p q)) g
+    walk-stop None y g = more ∙ pieces-none _ (split-full (drop (q + 1) (underscoredIf b path))) (w .level .r) (underscoredIf b (part path p q)) g
+    walk-stop (Text a c) y g = more ∙ pieces-text _ (split-full (drop (q + 1) (underscoredIf b path))) (w .level .r) (underscoredIf b (part path p q)) (g .0) (g .1)
     walk-stop (Dictionary a c n) y g = absurd (y a c n refl)
 
-    pub walk-on : (f : Found) {a c n : ℕ} → f ≡ (Dictionary a c n) → Gives s (get (w .level .r) (underscoredIf b (slice p q path))) f → Walking s a c (q + 1) r (underscoredIf b path)
+    pub walk-on : (f : Found) {a c n : ℕ} → f ≡ (Dictionary a c n) → Gives s (get (w .level .r) (underscoredIf b (part path p q))) f → Walking s a c (q + 1) r (underscoredIf b path)
     unfolding Gives
     walk-on f {a} {c} {n} y g₀ =
-        let g = subst (λ z. Gives s (get (w .level .r) (underscoredIf b (slice p q path))) z) y g₀ in
-        let o = dictionary-good (g .0) (w .level .l) (get-good (w .level .r) (w .level .p) (w .level .l) (underscoredIf b (slice p q path)) (dictionary (g .0)) (w .level .good) (g .1)) in
+        let g = subst (λ z. Gives s (get (w .level .r) (underscoredIf b (part path p q))) z) y g₀ in
+        let o = dictionary-good (g .0) (w .level .l) (get-good (w .level .r) (w .level .p) (w .level .l) (underscoredIf b (part path p q)) (dictionary (g .0)) (w .level .good) (g .1)) in
         record {
           level = record { r = g .0; p = nameByte; l = o .0; part = g .2; good = o .1 };
-          same = more ∙ pieces-dictionary _ (split-full (drop (q + 1) (underscoredIf b path))) (w .level .r) (underscoredIf b (slice p q path)) (g .0) (g .1);
+          same = more ∙ pieces-dictionary _ (split-full (drop (q + 1) (underscoredIf b path))) (w .level .r) (underscoredIf b (part path p q)) (g .0) (g .1);
         }

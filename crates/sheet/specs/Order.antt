@@ -10,11 +10,11 @@ use lib.Dec.{eqb, leb, ltb}
 use lib.ListN.{length, take, drop, getD, drop-of-length-le}
 use lib.Seq.{drop-cons}
 use borrow.Author.Tests.{eq-eqb, ne-eqb, eqb-true, lt-ltb, le-ltb, ltb-true, ltb-false}
+use Rattle.scan.specs.Sets.{part}
 use Rattle.rules.specs.Reader.{the, but, all, same}
 use Rattle.rules.specs.Bytes.{less, underscored}
 use Rattle.rules.specs.Laws.Sheet.{less-same, less-irrefl, same-refl, same-eq}
 use Rattle.rules.specs.Laws.Bool.{not-true}
-use Rattle.sheet.specs.Parts.{slice}
 
 -- A byte as it is asked for: in a reference `-` is made `_`.
 unfoldable pub underscoreIf : Bool → ℕ → ℕ
@@ -50,7 +50,7 @@ underscoredIf-take b zero t = underscoredIf-nil b
 underscoredIf-take b (suc k) [] = rw (underscoredIf-nil b) refl
 underscoredIf-take b (suc k) (x ∷ t) = rw (underscoredIf-cons b x t, underscoredIf-cons b x (take k t)) (ap (λ z. underscoreIf b x ∷ z) (underscoredIf-take b k t))
 
-pub underscoredIf-slice : (b : Bool) (p q : ℕ) (t : List ℕ) → underscoredIf b (slice p q t) ≡ slice p q (underscoredIf b t)
+pub underscoredIf-slice : (b : Bool) (p q : ℕ) (t : List ℕ) → underscoredIf b (part t p q) ≡ part (underscoredIf b t) p q
 underscoredIf-slice b p q t = underscoredIf-take b (q - p) (drop p t) ∙ ap (take (q - p)) (underscoredIf-drop b p t)
 
 pub underscoredIf-getD : (b : Bool) (t : List ℕ) (i : ℕ) → i < length t → getD (underscoredIf b t) i 0 ≡ underscoreIf b (getD t i 0)

@@ -1,17 +1,14 @@
 -- Parts of a list. Assumes nothing.
 use mathlib.Core.Path.{_≡_, refl, sym, ap, _∙_}
-use mathlib.Core.List.{List, [], _∷_, _++_, append-assoc}
+use mathlib.Core.List.{List, [], _∷_, _++_, append-assoc, append-nil}
 use Prim.Native.Nat.{ℕ, zero, suc, _+_, _-_, _≤_, _<_}
 use native.Mathlib.Nat.{le-refl}
 use native.Mathlib.Omega.{arith}
-use lib.ListN.{length, take, drop, getD, length-append, length-drop, length-take, take-append-drop}
+use lib.ListN.{length, take, drop, getD, length-append, length-drop, length-take, take-append-drop, drop-of-length-le}
 use lib.Seq.{drop-drop, drop-append-seam, take-append-seam, take-all, take-suc, getD-drop, length-take-le}
+use Rattle.scan.specs.Sets.{part}
 
--- What stands from f to t.
-abbrev pub slice : ℕ → ℕ → List ℕ → List ℕ
-slice f t s = take (t - f) (drop f s)
-
-pub length-slice : (f t : ℕ) (s : List ℕ) → t ≤ length s → length (slice f t s) ≡ t - f
+pub length-slice : (f t : ℕ) (s : List ℕ) → t ≤ length s → length (part s f t) ≡ t - f
 length-slice f t s h = length-take-le (t - f) (drop f s) (rw length-drop (omega arith))
 
 -- From i to j, s holds x.
@@ -31,7 +28,7 @@ part-split s i x y j p =
 pub part-cast : (s : List ℕ) (x : List ℕ) {i j k l : ℕ} → i ≡ k → j ≡ l → Part s i x j → Part s k x l
 part-cast s x p q h = rw (p, q) at h
 
-pub slice-part : (s : List ℕ) (f t : ℕ) → f ≤ t → t ≤ length s → Part s f (slice f t s) t
+pub slice-part : (s : List ℕ) (f t : ℕ) → f ≤ t → t ≤ length s → Part s f (part s f t) t
 slice-part s f t h k =
     let e : f + (t - f) ≡ t = omega arith in
     record {
@@ -41,7 +38,7 @@ slice-part s f t h k =
     }
 
 -- A part's bytes are the slice.
-pub part-slice : {s x : List ℕ} {i j : ℕ} → Part s i x j → slice i j s ≡ x
+pub part-slice : {s x : List ℕ} {i j : ℕ} → Part s i x j → part s i j ≡ x
 part-slice {s} {x} {i} {j} p =
     let l : j - i ≡ length x = omega (arith, p .ends) in
     rw (l, p .bytes) (take-append-seam x (drop j s))
@@ -51,3 +48,7 @@ pub part-of : (s : List ℕ) (i : ℕ) (x : List ℕ) (j : ℕ) → i ≤ length
 part-of s i x j h k e =
     let l : length s - i ≡ length x + (length s - j) = sym (length-drop i s) ∙ ap length e ∙ length-append x (drop j s) ∙ ap (λ z. length x + z) (length-drop j s) in
     record { ends = omega arith; inside = k; bytes = e }
+
+-- All of a list.
+pub part-all : {s x : List ℕ} → s ≡ x → Part s 0 x (length s)
+part-all {s} {x} e = record { ends = omega (arith, ap length e); inside = omega arith; bytes = e ∙ sym (append-nil x) ∙ ap (λ z. x ++ z) (sym (drop-of-length-le s {i = length s} (omega arith))) }

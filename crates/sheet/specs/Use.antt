@@ -1,4 +1,4 @@
--- For callers: a sheet that was checked is the bytes of good records, and so is what a binding leaves.
+-- For callers: a sheet that was checked is the bytes of good records.
 use mathlib.Core.Path.{_≡_, refl, sym, ap, _∙_}
 use mathlib.Core.Bool.{Bool, true, false, _&&_}
 use mathlib.Core.List.{List, [], _∷_}
@@ -16,10 +16,6 @@ use Rattle.rules.specs.Laws.Sheet.{isByte, sheet-good, sheet-canonical, set-goo
 use Rattle.sheet.specs.Find.{IsSheet, Gives}
 use Rattle.sheet.specs.declared.lookup.Found.{Found}
 use Rattle.sheet.specs.declared.lookup.Found.the-variants.{Missing, None, Text, Dictionary}
-use Rattle.sheet.specs.Place.{HasRecords}
-use Rattle.sheet.specs.Write.{Bindable, BindsTo, Leaves}
-use Rattle.sheet.specs.declared.bind.Bound.{Bound}
-use Rattle.sheet.specs.declared.bind.Bound.the-variants.{Over, Length}
 
 -- A list whose elements are bytes, as the list of a slice is.
 pub all-bytes : (b : List ℕ) → ((i : ℕ) → getD b i 0 < 256) → all isByte b ≡ true
@@ -41,53 +37,9 @@ checked b a h =
     let g = sheet-good b (x .0) (x .1) in
     record { r = x .0; of = x .1; bytes = sym (sheet-canonical b (x .0) a (x .1)); good = g .good; short = g .short }
 
--- It can be looked up in, and be bound in.
+-- It can be looked up in.
 pub to-look : {b : List ℕ} → Checked b → IsSheet b
 to-look c = record { r = c .r; bytes = c .bytes; good = c .good }
-
-pub to-bind : {b : List ℕ} → IsSheet b → HasRecords b
-to-bind s = record { r = s .r; bytes = s .bytes }
-
--- What a binding leaves.
-module _ (c : List ℕ) (l : ℕ) (r : Records) where
-  pub leaves-bytes : (m : ℕ) → Leaves c l (encode r) (Length m) → (m ≤ l) × (take m c ≡ encode r) × (m ≡ sheetLength r)
-  unfolding Leaves sheetLength
-  leaves-bytes m g = (g .0, g .2, g .1)
-
-  pub leaves-over : Leaves c l (encode r) Over → l < sheetLength r
-  unfolding Leaves sheetLength
-  leaves-over g = g
-
-module _ {b : List ℕ} {n l : ℕ} {name : List ℕ} {v : Value} {c : List ℕ} (r : Records) (e : take n b ≡ encode r) where
-  pub bound-bytes : {m : ℕ} → BindsTo b n l name v c (Length m) → (m ≤ l) × (take m c ≡ encode (set r name v)) × (m ≡ sheetLength (set r name v))
-  bound-bytes {m} w = leaves-bytes c l (set r name v) m (w .leaves r e)
-
-  pub over-long : BindsTo b n l name v c Over → l < sheetLength (set r name v)
-  over-long w = leaves-over c l (set r name v) (w .leaves r e)
-
-  pub bound-sheet : {m : ℕ} → goodRecords r word 6 ≡ true → all word name ≡ true → goodValue v 6 ≡ true → BindsTo b n l name v c (Length m) → IsSheet (take m c)
-  bound-sheet g a o w = record { r = set r name v; bytes = bound-bytes w .1; good = set-good r word 6 name v g a o }
-
--- The first n bytes of c are those of the good records s.
-pub record Holds (s : Records) (c : List ℕ) (n limit : ℕ) : Type 0 where
-  pub bytes : take n c ≡ encode s
-  pub long : n ≡ sheetLength s
-  pub fits : n ≤ limit
-  pub good : goodRecords s word 6 ≡ true
-
-abbrev pub holds-sheet : {s : Records} {c : List ℕ} {n limit : ℕ} → Holds s c n limit → IsSheet (take n c)
-holds-sheet {s} h = record { r = s; bytes = h .bytes; good = h .good }
-
--- The first n bytes of l are a sheet, which may grow up to the limit.
-pub record Keeps (l : List ℕ) (n limit : ℕ) : Type 0 where
-  pub fits : n ≤ limit
-  pub room : limit ≤ length l
-  pub most : limit ≤ 65535
-  pub sheet : IsSheet (take n l)
-
-pub keeps-holds : {l : List ℕ} {n limit : ℕ} (k : Keeps l n limit) → Holds (k .sheet .r) l n limit
-unfolding sheetLength
-keeps-holds {l} {n} k = record { bytes = k .sheet .bytes; long = sym (ap length (sym (k .sheet .bytes)) ∙ length-take-le n l (omega (arith, k .fits, k .room))); fits = k .fits; good = k .sheet .good }
 
 -- What a lookup gave, where nothing is missing.
 pub found-there : (s : List ℕ) (x : Option Value) (f : Found) → Gives s x f → (f ≡ Missing → ⊥) → (v : Value) × (x ≡ some v) × Gives s (some v) f

@@ -14,7 +14,7 @@ ghost use Rattle.rules.specs.Sheet.{Value, Records, rec, encode, count, goodRec
 ghost use Rattle.sheet.specs.Parts.{Part};
 ghost use Rattle.sheet.specs.Items.{At, Describes, Holding, Has};
 ghost use Rattle.sheet.specs.Order.{underscoreIf, underscoredIf, orderOf};
-ghost use Rattle.sheet.specs.Place.{HasRecords};
+ghost use Rattle.sheet.specs.Find.{HasRecords};
 ghost use Rattle.sheet.specs.Find.{Gives, Body, HasBody, Level, IsSheet};
 
 // What a lookup finds, with its place in the sheet.

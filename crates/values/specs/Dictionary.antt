@@ -18,13 +18,12 @@ use Rattle.scan.specs.Sets.{part, Spans, Sees, Starts, byteIs, notByte}
 use Rattle.scan.specs.Laws.{sees-the, mark-yes, mark-no}
 use Rattle.scan.specs.Stretches.{spans-but}
 use Rattle.scan.specs.Paths.{tail-part}
-use Rattle.sheet.specs.Parts.{slice}
 use Rattle.sheet.specs.Find.{IsSheet}
-use Rattle.sheet.specs.Place.{one-some, Between, between-start}
-use Rattle.sheet.specs.Mark.{ascending, set-ascending, Marked, HasMark}
-use Rattle.sheet.specs.Write.{IsSource, HasSource, Bindable, BindsAt, Leaves, set-size}
-use Rattle.sheet.specs.declared.bind.Put.{Put}
-use Rattle.sheet.specs.declared.bind.Bound.the-variants.{Over, Length}
+use Rattle.binding.specs.Place.{one-some, Between, between-start}
+use Rattle.binding.specs.Mark.{ascending, set-ascending, Marked, HasMark}
+use Rattle.binding.specs.Write.{IsSource, HasSource, Bindable, BindsAt, Leaves, set-size}
+use Rattle.binding.specs.declared.Put.{Put}
+use Rattle.binding.specs.declared.Bound.the-variants.{Over, Length}
 use Rattle.values.specs.declared.ValueRead.{ValueRead}
 use Rattle.values.specs.Values.{Room, room-two, room-behind, lent-size, lent-first, Taken, ReadsValue, IsNone, Refused, Closes}
 
@@ -182,7 +181,7 @@ module _ (limit l : ℕ) {t : List ℕ} {at : ℕ} {z w c : List ℕ} {i n last 
       pub after-records : n ≤ limit → take n after ≡ take n c
       after-records h = lent-first limit c o (omega arith) (U .size) n h
 
-      pub after-own : v .len ≤ length o → slice limit (limit + v .len) after ≡ take (v .len) o
+      pub after-own : v .len ≤ length o → part after limit (limit + v .len) ≡ take (v .len) o
       after-own h =
           let x : limit + v .len - limit ≡ v .len = omega arith in
           rw x (ap (take (v .len)) (drop-at (take limit c) (o ++ drop (length c - limit) (drop limit c)) limit (length-take-le limit c (omega arith))) ∙ take-append-le (v .len) o (drop (length c - limit) (drop limit c)) h)
@@ -211,7 +210,7 @@ module _ (limit l : ℕ) {t : List ℕ} {at : ℕ} {z w c : List ℕ} {i n last 
           turned : round (G .d) (drop i t) ≡ (grown limit (s .r) (G .d) (part t j k) (accepted (T .v)), drop (v .at) t)
           turned = entry-reads (s .r) (G .d) (dictionaryValue limit (s .r) (l - 1)) ∙ λ y. (grown limit (s .r) (G .d) (part t j k) (T .is y), T .rest y)
 
-          pub own-source : IsSource (T .v) (v .bit) (v .count) (slice limit (limit + v .len) after)
+          pub own-source : IsSource (T .v) (v .bit) (v .count) (part after limit (limit + v .len))
           own-source = subst (IsSource (T .v) (v .bit) (v .count)) (sym (after-own (omega (arith, U .fits, rest-long)))) (T .source)
 
       -- It can be bound.
@@ -232,7 +231,7 @@ module _ (limit l : ℕ) {t : List ℕ} {at : ℕ} {z w c : List ℕ} {i n last 
       pub entry-end : limit + v .len ≤ length after
       entry-end = omega (arith, U .fits, after-size)
 
-      pub entry-source : (s : IsSheet z) → v .ok ≡ true → HasSource (v .bit) (v .count) (slice limit (limit + v .len) after)
+      pub entry-source : (s : IsSheet z) → v .ok ≡ true → HasSource (v .bit) (v .count) (part after limit (limit + v .len))
       entry-source s h = record { v = T s h .v; is = own-source s h }
 
       pub entering-no : {r : ValueRead} → v .ok ≡ false → Refused (v .number) (v .at) r → ReadsValue limit (λ s. dictionaryValue limit s l) t at z w after r
@@ -246,7 +245,7 @@ module _ (limit l : ℕ) {t : List ℕ} {at : ℕ} {z w c : List ℕ} {i n last 
       }
 
       -- The entry was bound, or is too long. s₀: there is a sheet.
-      module _ (s₀ : IsSheet z) (h : v .ok ≡ true) {room : ℕ} (u : room ≡ limit - 3) {b : List ℕ} {q : Put} (B : (x : Value) → IsSource x (v .bit) (v .count) (slice limit (limit + v .len) after) → BindsAt after n last room (part t j k) x b q) where
+      module _ (s₀ : IsSheet z) (h : v .ok ≡ true) {room : ℕ} (u : room ≡ limit - 3) {b : List ℕ} {q : Put} (B : (x : Value) → IsSource x (v .bit) (v .count) (part after limit (limit + v .len)) → BindsAt after n last room (part t j k) x b q) where
         binds-at : (s : IsSheet z) → BindsAt after n last (limit - 3) (part t j k) (T s h .v) b q
         binds-at s = subst (λ x. BindsAt after n last x (part t j k) (T s h .v) b q) u (B (T s h .v) (own-source s h))
 

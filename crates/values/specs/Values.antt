@@ -22,7 +22,7 @@ use Rattle.buffers.specs.Laws.{put-length, put-fits, put-not, stored-first}
 use Rattle.buffers.specs.Emits.{put-fill}
 use Rattle.strings.specs.Read.{Wrote}
 use Rattle.sheet.specs.Find.{IsSheet}
-use Rattle.sheet.specs.Write.{IsSource, text-empty, text-full}
+use Rattle.binding.specs.Write.{IsSource, text-empty, text-full}
 use Rattle.values.specs.declared.ValueRead.{ValueRead}
 
 -- What a value with l levels of dictionaries needs: a slot for each level, and one for a text.

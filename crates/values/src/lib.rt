@@ -1,6 +1,6 @@
 // Values of definitions (document 01, section 7): a text, none, or a dictionary, which holds values.
 use scan::Set;
-use sheet::bind::Bound;
+use binding::Bound;
 use sheet::head::DICTIONARY;
 use sheet::head::NONE;
 use sheet::head::TEXT;
@@ -9,7 +9,7 @@ ghost use Prim.Native.Nat.{_-_, _≤_};
 ghost use lib.ListN.{length};
 ghost use Rattle.rules.specs.Definitions.{textValue, value, dictionaryValue};
 ghost use Rattle.sheet.specs.Find.{IsSheet};
-ghost use Rattle.sheet.specs.Place.{HasRecords};
+ghost use Rattle.sheet.specs.Find.{HasRecords};
 ghost use Rattle.values.specs.Values.{Room, ReadsValue, IsNone, Refused, Closes};
 
 // What reading a value came to: is there one; if not, the refusal's number; where reading goes on; the value's bit, the number that stands before
@@ -173,7 +173,7 @@ fn dictionary(
             return no_value(v.number, v.at);
         }
         let end = limit + v.len;
-        let o = sheet::bind::bind_behind(
+        let o = binding::bind_behind(
             work,
             n,
             last,

@@ -7,7 +7,7 @@ use Rattle.builder.proofs.give.Reads as give-reads
 use Rattle.builder.proofs.no_text.Reads as no-text-reads
 use Rattle.builder.proofs.text_place.Reads as text-place-reads
 use Rattle.scan.proofs.is_ascii.Reads as is-ascii-reads
-use Rattle.sheet.proofs.check.check.Reads as check-reads
+use Rattle.sheet_layout.proofs.check.Reads as check-reads
 use Rattle.sheet.proofs.lookup.lookup.Reads as lookup-reads
 use mathlib.Core.Path.{_≡_, refl, sym, ap, _∙_}
 use native.Mathlib.Omega.{arith}

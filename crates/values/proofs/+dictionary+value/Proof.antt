@@ -13,7 +13,7 @@ use Rattle.scan.proofs.find.Reads as find-reads
 use Rattle.scan.proofs.sees.Reads as sees-reads
 use Rattle.scan.proofs.span.Reads as span-reads
 use Rattle.scan.proofs.starts_with.Reads as starts-with-reads
-use Rattle.sheet.proofs.bind.bind_behind.Reads as bind-behind-reads
+use Rattle.binding.proofs.bind_behind.Reads as bind-behind-reads
 use Rattle.values.proofs.close.Reads as close-reads
 use Rattle.values.proofs.no_value.Reads as no-value-reads
 use Rattle.values.proofs.none_value.Reads as none-value-reads

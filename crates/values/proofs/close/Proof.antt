@@ -6,10 +6,10 @@ use Rattle.values.proofs.close.Lts as lts
 use Rattle.scan.proofs.skip.Reads as skip-reads
 use Rattle.sheet.proofs.lookup.count.Reads as count-reads
 use mathlib.Core.Path.{_≡_, refl, sym}
-use Rattle.sheet.specs.Write.{dictionary-source}
+use Rattle.binding.specs.Write.{dictionary-source}
 use mathlib.Core.Path.{subst}
 use Rattle.rules.specs.Sheet.{dictionary}
-use Rattle.sheet.specs.Write.{IsSource}
+use Rattle.binding.specs.Write.{IsSource}
 
 skip-requires : tie.Need-skip-requires
 skip-requires c κs = search needs

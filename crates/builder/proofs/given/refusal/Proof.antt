@@ -6,7 +6,7 @@ use Rattle.builder.proofs.given.refusal.Lts as lts
 use Rattle.bundle.proofs.check.Reads as check-reads
 use Rattle.scan.proofs.is_ascii.Reads as is-ascii-reads
 use Rattle.scan.proofs.paths.is_folder.Reads as is-folder-reads
-use Rattle.sheet.proofs.check.check.Reads as check-check-reads
+use Rattle.sheet_layout.proofs.check.Reads as check-check-reads
 use mathlib.Core.Path.{_≡_, refl, sym, ap, _∙_}
 use native.Mathlib.Omega.{arith}
 use borrow.Author.Tests.{not-true, not-false}

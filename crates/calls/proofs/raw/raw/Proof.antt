@@ -32,7 +32,7 @@ arguments-requires : tie.Need-arguments-requires
 arguments-requires c κs = c .before .before .before .raw-content .ensures (c .before .before .before .before .before .before .before .before .before .pre .3) .inside
 
 returns : tie.Need-returns
-returns c = λ s. raw-stalled _ _ (c .before .before .before .before .before .before .span .ensures) (c .before .before .before .before .before .raw-content .ensures s) (c .before .before .before .told2 .given .1) (c .before .arguments .ensures _ _) (c .if1 .taken)
+returns c = λ s. raw-stalled _ _ (c .before .before .before .before .before .before .span .ensures) (c .before .before .before .before .before .raw-content .ensures s) (c .before .before .before .content2 .given .1) (c .before .arguments .ensures _ _) (c .if1 .taken)
 
 at-requires : tie.Need-at-requires
 at-requires c κs = search needs
@@ -41,7 +41,7 @@ skip-requires : tie.Need-skip-requires
 skip-requires c κs = c .before .before .arguments .ensures (λ (x : List ℕ). x) [] .inside
 
 put-raw-requires : tie.Need-put-raw-requires
-put-raw-requires c κs = (content-inside _ _ (c .before .before .before .before .before .before .before .before .raw-content .ensures (c .before .before .before .before .before .before .before .before .before .before .before .before .before .before .pre .3)) (c .before .before .before .before .before .before .told2 .given .1), c .before .before .before .before .arguments .ensures (λ (x : List ℕ). x) _ .lies, c .before .before .before .before .before .before .before .before .before .before .before .before .before .before .pre .2, c .before .before .before .before .before .before .before .before .before .before .before .before .before .before .pre .3)
+put-raw-requires c κs = (content-inside _ _ (c .before .before .before .before .before .before .before .before .raw-content .ensures (c .before .before .before .before .before .before .before .before .before .before .before .before .before .before .pre .3)) (c .before .before .before .before .before .before .content2 .given .1), c .before .before .before .before .arguments .ensures (λ (x : List ℕ). x) _ .lies, c .before .before .before .before .before .before .before .before .before .before .before .before .before .before .pre .2, c .before .before .before .before .before .before .before .before .before .before .before .before .before .before .pre .3)
 
 returns-2 : tie.Need-returns-2
 returns-2 c = λ s. raw-back _ _ (c .before .before .before .span .ensures) (c .before .before .raw-content .ensures s) (c .enum-told .given .1)
@@ -53,7 +53,7 @@ same-length : tie.Need-same-length
 same-length c = c .before .before .put-raw .ensures (c .before .before .before .before .before .before .before .before .before .before .before .before .before .before .before .before .before .pre .3) .size
 
 returns-4 : tie.Need-returns-4
-returns-4 c = λ s. raw-output _ _ (c .before .before .before .before .before .before .before .before .before .before .before .before .span .ensures) (c .before .before .before .before .before .before .before .before .before .before .before .raw-content .ensures s) (c .before .before .before .before .before .before .before .before .before .told2 .given .1) (c .before .before .before .before .before .before .before .arguments .ensures _ _) (c .before .before .before .before .before .before .if1 .left) (c .before .before .before .before .before .at .ensures) (c .before .before .before .before .skip .ensures) (c .before .before .put-raw .ensures s)
+returns-4 c = λ s. raw-output _ _ (c .before .before .before .before .before .before .before .before .before .before .before .before .span .ensures) (c .before .before .before .before .before .before .before .before .before .before .before .raw-content .ensures s) (c .before .before .before .before .before .before .before .before .before .content2 .given .1) (c .before .before .before .before .before .before .before .arguments .ensures _ _) (c .before .before .before .before .before .before .if1 .left) (c .before .before .before .before .before .at .ensures) (c .before .before .before .before .skip .ensures) (c .before .before .put-raw .ensures s)
 
 pub raw-spec : {M : Type 1} → statement M
 raw-spec =

@@ -3,7 +3,7 @@ use Rattle.definitions.proofs.names.bind_all.Statement.{statement}
 use Rattle.definitions.proofs.names.bind_all.Tie as tie
 use Rattle.definitions.proofs.names.bind_all.Reads as reads
 use Rattle.definitions.proofs.names.bind_all.Lts as lts
-use Rattle.sheet.proofs.bind.bind_from.Reads as bind-from-reads
+use Rattle.binding.proofs.bind_from.Reads as bind-from-reads
 use Rattle.sheet.proofs.lookup.item.Reads as item-reads
 use Rattle.sheet.proofs.lookup.skip.Reads as skip-reads
 use Rattle.sheet.proofs.lookup.value.Reads as value-reads

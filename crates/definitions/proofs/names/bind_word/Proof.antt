@@ -3,7 +3,7 @@ use Rattle.definitions.proofs.names.bind_word.Statement.{statement}
 use Rattle.definitions.proofs.names.bind_word.Tie as tie
 use Rattle.definitions.proofs.names.bind_word.Reads as reads
 use Rattle.definitions.proofs.names.bind_word.Lts as lts
-use Rattle.sheet.proofs.bind.bind_from.Reads as bind-from-reads
+use Rattle.binding.proofs.bind_from.Reads as bind-from-reads
 use Rattle.sheet.proofs.lookup.find.Reads as find-reads
 use mathlib.Core.Path.{_≡_, ap}
 use mathlib.Core.Logic.{_⊎_, ⊎-elim}

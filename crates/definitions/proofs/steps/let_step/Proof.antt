@@ -4,14 +4,14 @@ use Rattle.definitions.proofs.steps.let_step.Tie as tie
 use Rattle.definitions.proofs.steps.let_step.Reads as reads
 use Rattle.definitions.proofs.steps.let_step.Lts as lts
 use Rattle.scan.proofs.span.Reads as span-reads
-use Rattle.sheet.proofs.bind.bind_value_at.Reads as bind-value-at-reads
+use Rattle.binding.proofs.bind_value_at.Reads as bind-value-at-reads
 use Rattle.values.proofs.value.Reads as value-reads
 use mathlib.Core.Path.{_≡_, sym, _∙_}
 use native.Mathlib.Omega.{arith}
 use lib.Seq.{length-take-le}
 use borrow.Author.Tests.{not-true, not-false}
-use Rattle.sheet.specs.Mark.{has-mark}
-use Rattle.sheet.specs.Use.{to-bind}
+use Rattle.binding.specs.Mark.{has-mark}
+use Rattle.binding.specs.Use.{to-bind}
 use Rattle.values.specs.Values.{slot-le}
 use Rattle.definitions.specs.Steps.{let-no, let-size, let-over, let-bound}
 

@@ -3,8 +3,8 @@ use Rattle.expansion.proofs.steps.bind_line.Statement.{statement}
 use Rattle.expansion.proofs.steps.bind_line.Tie as tie
 use Rattle.expansion.proofs.steps.bind_line.Reads as reads
 use Rattle.expansion.proofs.steps.bind_line.Lts as lts
-use Rattle.sheet.proofs.bind.bind_found.Reads as bind-found-reads
-use Rattle.sheet.proofs.bind.bind_text.Reads as bind-text-reads
+use Rattle.binding.proofs.bind_found.Reads as bind-found-reads
+use Rattle.binding.proofs.bind_text.Reads as bind-text-reads
 use Rattle.sheet.proofs.lookup.lookup.Reads as lookup-reads
 use mathlib.Core.Path.{_≡_, sym, ap}
 use mathlib.Core.Logic.{_⊎_, ⊎-elim}

@@ -11,7 +11,7 @@ use native.Mathlib.Omega.{arith}
 use lib.ListN.{length}
 use Rattle.rules.specs.Sheet.{Records, encode}
 use Rattle.sheet.specs.Find.{item-holding, item-has, item-rest}
-use Rattle.sheet.specs.Place.{Counting, count-start, count-next, counted-at, count-on, count-end}
+use Rattle.sheet.specs.Count.{Counting, count-start, count-next, counted-at, count-on, count-end}
 
 abbrev Inv-loop : tie.InvT-loop
 Inv-loop s i₀ k₀ i k = (r : Records) → s ≡ encode r → Counting s r i k

@@ -1,0 +1,5 @@
+pub mod Place
+pub mod Mark
+pub mod Moves
+pub mod Write
+pub mod Use

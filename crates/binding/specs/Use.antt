@@ -1,0 +1,68 @@
+-- For callers: what a binding leaves is the bytes of good records.
+use mathlib.Core.Path.{_≡_, refl, sym, ap, _∙_}
+use mathlib.Core.Bool.{Bool, true, false, _&&_}
+use mathlib.Core.List.{List, [], _∷_}
+use mathlib.Core.Option.{Option, some}
+use Prim.Native.Nat.{ℕ, zero, suc, _≤_, _<_}
+use native.Mathlib.Omega.{arith}
+use lib.Dec.{ltb}
+use lib.ListN.{length, take, getD}
+use lib.Seq.{length-take-le}
+use Rattle.rules.specs.Reader.{all}
+use Rattle.rules.specs.Bytes.{word}
+use Rattle.rules.specs.Sheet.{Value, text, nothing, dictionary, Records, encode, sheetLength, goodRecords, goodValue, sheetOf, set}
+use Rattle.rules.specs.Laws.Bool.{and-i, ltb-true, isSome, true-some}
+use Rattle.rules.specs.Laws.Sheet.{isByte, sheet-good, sheet-canonical, set-good}
+use Rattle.sheet.specs.Find.{IsSheet, Gives}
+use Rattle.sheet.specs.declared.lookup.Found.{Found}
+use Rattle.sheet.specs.declared.lookup.Found.the-variants.{Missing, None, Text, Dictionary}
+use Rattle.sheet.specs.Find.{HasRecords}
+use Rattle.binding.specs.Write.{Bindable, BindsTo, Leaves}
+use Rattle.binding.specs.declared.Bound.{Bound}
+use Rattle.binding.specs.declared.Bound.the-variants.{Over, Length}
+
+-- A sheet can be bound in.
+pub to-bind : {b : List ℕ} → IsSheet b → HasRecords b
+to-bind s = record { r = s .r; bytes = s .bytes }
+
+-- What a binding leaves.
+module _ (c : List ℕ) (l : ℕ) (r : Records) where
+  pub leaves-bytes : (m : ℕ) → Leaves c l (encode r) (Length m) → (m ≤ l) × (take m c ≡ encode r) × (m ≡ sheetLength r)
+  unfolding Leaves sheetLength
+  leaves-bytes m g = (g .0, g .2, g .1)
+
+  pub leaves-over : Leaves c l (encode r) Over → l < sheetLength r
+  unfolding Leaves sheetLength
+  leaves-over g = g
+
+module _ {b : List ℕ} {n l : ℕ} {name : List ℕ} {v : Value} {c : List ℕ} (r : Records) (e : take n b ≡ encode r) where
+  pub bound-bytes : {m : ℕ} → BindsTo b n l name v c (Length m) → (m ≤ l) × (take m c ≡ encode (set r name v)) × (m ≡ sheetLength (set r name v))
+  bound-bytes {m} w = leaves-bytes c l (set r name v) m (w .leaves r e)
+
+  pub over-long : BindsTo b n l name v c Over → l < sheetLength (set r name v)
+  over-long w = leaves-over c l (set r name v) (w .leaves r e)
+
+  pub bound-sheet : {m : ℕ} → goodRecords r word 6 ≡ true → all word name ≡ true → goodValue v 6 ≡ true → BindsTo b n l name v c (Length m) → IsSheet (take m c)
+  bound-sheet g a o w = record { r = set r name v; bytes = bound-bytes w .1; good = set-good r word 6 name v g a o }
+
+-- The first n bytes of c are those of the good records s.
+pub record Holds (s : Records) (c : List ℕ) (n limit : ℕ) : Type 0 where
+  pub bytes : take n c ≡ encode s
+  pub long : n ≡ sheetLength s
+  pub fits : n ≤ limit
+  pub good : goodRecords s word 6 ≡ true
+
+abbrev pub holds-sheet : {s : Records} {c : List ℕ} {n limit : ℕ} → Holds s c n limit → IsSheet (take n c)
+holds-sheet {s} h = record { r = s; bytes = h .bytes; good = h .good }
+
+-- The first n bytes of l are a sheet, which may grow up to the limit.
+pub record Keeps (l : List ℕ) (n limit : ℕ) : Type 0 where
+  pub fits : n ≤ limit
+  pub room : limit ≤ length l
+  pub most : limit ≤ 65535
+  pub sheet : IsSheet (take n l)
+
+pub keeps-holds : {l : List ℕ} {n limit : ℕ} (k : Keeps l n limit) → Holds (k .sheet .r) l n limit
+unfolding sheetLength
+keeps-holds {l} {n} k = record { bytes = k .sheet .bytes; long = sym (ap length (sym (k .sheet .bytes)) ∙ length-take-le n l (omega (arith, k .fits, k .room))); fits = k .fits; good = k .sheet .good }
+
