@@ -14,7 +14,6 @@ use Rattle.sheet.specs.Parts.{Part, part-all, part-split, part-slice}
 use Rattle.sheet.specs.Items.{At, join, encode-join, join-one}
 use Rattle.sheet.specs.Order.{orderOf, order-less, order-three}
 
-
 -- The bytes of one record.
 unfoldable pub one : List ℕ → Value → List ℕ
 one n v = (fieldMask 1 n + valueMask v) ∷ (fieldBytes n ++ valueBytes v)

@@ -26,17 +26,20 @@ ghost use Rattle.binding.specs.Write.{wide, openLen, opening, mapNo, IsB
 // What a binding comes to: too long a sheet, or the sheet's new length.
 pub enum Bound {
     Over,
-    Length(usize)}
+    Length(usize),
+}
 
 // What a binding comes to, and where its record begins; 0 if it is not put.
 pub struct Put {
     pub bound: Bound,
-    pub at: usize}
+    pub at: usize,
+}
 
 // Where a name is bound: in place of the bytes from a place to another.
 pub struct Place {
     pub from: usize,
-    pub to: usize}
+    pub to: usize,
+}
 
 // Where the search for a name starts: at `last`, unless the record there comes behind the name.
 fn start(s: &[u8], last: usize, name: &[u8], reference: bool) -> usize
@@ -109,11 +112,13 @@ pub struct Room {
     pub from: usize,
     pub to: usize,
     pub head: usize,
-    pub total: usize}
+    pub total: usize,
+}
 
 pub enum Plan {
     Over,
-    Fits(Room)}
+    Fits(Room),
+}
 
 // Plans the binding of a name to a value of these many bytes.
 fn find_room(
@@ -141,7 +146,8 @@ fn find_room(
         from: p.from,
         to: p.to,
         head: head,
-        total: total})
+        total: total,
+    })
 }
 
 // Moves the bytes from a place up to another to a third.
@@ -245,7 +251,8 @@ pub struct Source {
     pub bit: u8,
     pub from: usize,
     pub to: usize,
-    pub count: usize}
+    pub count: usize,
+}
 
 // The value that a lookup found.
 fn source_of(value: Found) -> Source
@@ -256,26 +263,31 @@ fn source_of(value: Found) -> Source
             bit: NONE,
             from: 0,
             to: 0,
-            count: 0},
+            count: 0,
+        },
         Found::Text { from, to } => {
             if to <= from {
                 return Source {
                     bit: 0,
                     from: from,
                     to: to,
-                    count: 0};
+                    count: 0,
+                };
             }
             Source {
                 bit: TEXT,
                 from: from,
                 to: to,
-                count: to - from}
+                count: to - from,
+            }
         }
         Found::Dictionary { from, to, count } => Source {
             bit: DICTIONARY,
             from: from,
             to: to,
-            count: count}}
+            count: count,
+        }
+    }
 }
 
 // Binds a name to a value with this bit, this number and these bytes of its own. At `last` a record of the sheet begins: names that
@@ -297,14 +309,16 @@ pub fn bind_value_at(
     let Plan::Fits(p) = find_room(&buf[..n], last, limit, name, reference, bit, own.len()) else {
         return Put {
             bound: Bound::Over,
-            at: 0};
+            at: 0,
+        };
     };
     shift(buf, p.to, n, p.from + p.head + own.len());
     buffers::store(buf, p.from + p.head, own);
     put_opening(buf, p.from, name, reference, bit, count);
     Put {
         bound: Bound::Length(p.total),
-        at: p.from}
+        at: p.from,
+    }
 }
 
 // Binds a name to a value with this bit, this number and these bytes of its own.
@@ -345,14 +359,16 @@ pub fn bind_behind(
     let Plan::Fits(p) = find_room(&buf[..n], last, limit, name, false, bit, len) else {
         return Put {
             bound: Bound::Over,
-            at: 0};
+            at: 0,
+        };
     };
     shift(buf, p.to, n, p.from + p.head + len);
     shift(buf, from, to, p.from + p.head);
     put_opening(buf, p.from, name, false, bit, count);
     Put {
         bound: Bound::Length(p.total),
-        at: p.from}
+        at: p.from,
+    }
 }
 
 // Binds a name to a text.

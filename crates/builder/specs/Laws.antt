@@ -17,26 +17,11 @@ use Rattle.rules.specs.Calls.{zeros, padded, Kind, kindAnswer, resolveResult, r
 use Rattle.rules.specs.Laws.Bool.{isSome, false-some}
 use Rattle.sheet.specs.declared.lookup.Found.{Found}
 use Rattle.sheet.specs.declared.lookup.Found.the-variants.{Missing, None, Text, Dictionary}
-use Rattle.sheet.specs.Use.{all-bytes, Checked, checked, to-look}
+use Rattle.sheet.specs.Use.{known}
 use Rattle.sheet.specs.Order.{underscoredIf}
-use Rattle.sheet.specs.Find.{IsSheet, Gives, foundKind, foundText, gives-kind, gives-string}
-use Rattle.rules.specs.Run.{Emit}
+use Rattle.sheet.specs.Find.{Gives, foundKind, foundText, gives-kind, gives-string}
 use Rattle.buffers.specs.Laws.{stored-first}
-use Rattle.buffers.specs.Emits.{Writes}
 use Rattle.builder.specs.Text.{TextAt, Gave, Refuses}
-
--- A slice whose check says yes.
-pub known : (s : List ℕ) → ((i : ℕ) → getD s i 0 < 256) → isSome (sheetOf s) ≡ true → Checked s
-known s b h = checked s (all-bytes s b) h
-
-pub is-sheet : (s : List ℕ) → ((i : ℕ) → getD s i 0 < 256) → isSome (sheetOf s) ≡ true → IsSheet s
-is-sheet s b h = to-look (known s b h)
-
--- A text written from the start of a buffer stands there.
-pub written-first : {full room : ℕ} {e : Emit} {b c : List ℕ} {q : ℕ} (w : Writes full room e b 0 c q) → room ≡ length b → (q ≡ length (w .text)) × (take q c ≡ w .text)
-written-first {b = b} {q = q} w l =
-    let f : q ≡ length (w .text) = omega (arith, w .fills .place) in
-    (f, w .fills .holds ∙ ap (λ x. take x (sets b 0 (w .text))) f ∙ stored-first b (w .text) (omega (arith, w .fits)))
 
 -- KIND.
 pub resolve-three : (s p : List ℕ) → isSome (sheetOf s) ≡ false → resolveOf s p ≡ record { number = 3; kind = 0 }
@@ -50,7 +35,7 @@ resolve-six s p b h a = rw (known s b h .of, a)
 module _ (s p : List ℕ) (bytes : (i : ℕ) → getD s i 0 < 256) (h : isSome (sheetOf s) ≡ true) (f : Found)
     (told : (r : Records) → s ≡ encode r → goodRecords r word 6 ≡ true → Gives s (resolve r (underscoredIf false p)) f) where
   gives : Gives s (resolve (known s bytes h .r) p) f
-  unfolding asked
+  unfolding underscoredIf
   gives = let x = known s bytes h in told (x .r) (x .bytes) (x .good)
 
   pub resolve-kind : (k : ℕ) → all ascii p ≡ true → k ≡ foundKind f → resolveOf s p ≡ record { number = 0; kind = k }

@@ -1,8 +1,4 @@
 pub mod Text
 pub mod Laws
 pub mod Files
-pub mod Includes
-pub mod Given
-pub mod Expansion
-pub mod Definitions
-pub mod Pass
+pub mod Cleared

@@ -22,14 +22,6 @@ pub record Refuses (before after : List ℕ) (k number len : ℕ) : Type 0 where
   pub says : number ≡ k
   pub none : len ≡ 0
 
--- Two buffers are cleared, and the number answered.
-pub record RefusesBoth (out out₂ left left₂ : List ℕ) (k number len sheetLen : ℕ) : Type 0 where
-  pub cleared : out₂ ≡ zeros (length out)
-  pub left-cleared : left₂ ≡ zeros (length left)
-  pub says : number ≡ k
-  pub none : len ≡ 0
-  pub no-sheet : sheetLen ≡ 0
-
 -- The text t, or 11, is answered in a buffer of n bytes.
 pub record Gave (t : List ℕ) (n : ℕ) (out : List ℕ) (number len : ℕ) : Type 0 where
   pub is : outputAnswer n (check 11 (leb (length t) n) >> accepted t) ≡ record { number = number; len = len; out = out }

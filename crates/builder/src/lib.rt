@@ -3,19 +3,10 @@
 use sheet::lookup::Found;
 ghost use mathlib.Core.Path.{_≡_};
 ghost use lib.ListN.{length};
-ghost use Rattle.rules.specs.Calls.{resolveOf, resolveStringOf, resolveIncludesOf, preprocessTypstOf, findFileOf};
+ghost use Rattle.rules.specs.Calls.{resolveOf, resolveStringOf, resolveIncludesOf, preprocessTypstOf, parseDefinitionsOf, passOf, findFileOf};
 ghost use Rattle.sheet.specs.Find.{foundKind};
 ghost use Rattle.builder.specs.Files.{fileAnswer};
-ghost use Rattle.builder.specs.Text.{TextAt, Gave, Refuses, RefusesBoth};
-
-mod definitions_call;
-mod given;
-mod pass_call;
-
-pub use definitions_call::Defined;
-pub use definitions_call::parse_definitions;
-pub use pass_call::Passed;
-pub use pass_call::pass;
+ghost use Rattle.builder.specs.Text.{TextAt, Gave, Refuses};
 
 // A lookup's answer. Kind: 0 missing, 1 none, 2 text, 3 dictionary.
 #[repr(C)]
@@ -130,25 +121,11 @@ pub fn resolve_string(sheet: &[u8], path: &[u8], out: &mut [u8]) -> Text
 pub fn resolve_includes(bundle: &[u8], folder: &[u8], text: &[u8], out: &mut [u8]) -> Text
     ensures { λ r. ⌜ resolveIncludesOf (now (bundle .entry)) (now (folder .entry)) (now (text .entry)) (length (now (out .entry))) ≡ record { number = r .number; len = r .len; out = now (out .exit) } ⌝ }
 {
-    if !bundle::check(bundle) {
-        return no_text(out, 2);
-    }
-    if !scan::paths::is_folder(folder) {
-        return no_text(out, 4);
-    }
-    if !scan::is_ascii(text) {
-        return no_text(out, 6);
-    }
-    let room = out.len();
-    let r = includes::resolve(bundle, folder, text, out, room, 0, 11, 6);
-    if !r.ok {
-        return no_text(out, r.number);
-    }
-    let end = r.next;
-    buffers::clear_from(out, end);
+    let t = runs::include_call::resolve_includes(bundle, folder, text, out);
+    buffers::clear_from(out, t.len);
     Text {
-        number: 0,
-        len: end,
+        number: t.number,
+        len: t.len,
     }
 }
 
@@ -158,19 +135,6 @@ pub struct Expanded {
     pub number: u8,
     pub len: usize,
     pub sheet: usize,
-}
-
-// The refusal of an expansion: every byte of both buffers zero.
-fn no_expansion(out: &mut [u8], left: &mut [u8], number: u8) -> Expanded
-    ensures { λ r. ⌜ RefusesBoth (now (out .entry)) (now (out .exit)) (now (left .entry)) (now (left .exit)) number (r .number) (r .len) (r .sheet) ⌝ }
-{
-    buffers::clear_from(out, 0);
-    buffers::clear_from(left, 0);
-    Expanded {
-        number: number,
-        len: 0,
-        sheet: 0,
-    }
 }
 
 // A text expanded, and the sheet with the text's bindings: 2, 3, 6, 9 for the sheet given, then in reading 9, 11, 8, 4, 5, 6.
@@ -183,24 +147,67 @@ pub fn preprocess_typst(
 ) -> Expanded
     ensures { λ r. ⌜ preprocessTypstOf (now (bundle .entry)) (now (text .entry)) (now (sheet .entry)) (length (now (out .entry))) (length (now (left .entry))) ≡ record { number = r .number; len = r .len; sheetLen = r .sheet; out = now (out .exit); left = now (left .exit) } ⌝ }
 {
-    let limit = given::sheet_limit(left.len());
-    let number = given::refusal(bundle, b"", text, sheet, limit);
-    if number != 0 {
-        return no_expansion(out, left, number);
-    }
-    buffers::store(left, 0, sheet);
-    let r = expansion::expand(bundle, text, out, 0, left, sheet.len(), limit, 11);
-    if !r.ok {
-        return no_expansion(out, left, r.number);
-    }
-    let written = r.next;
-    let len = r.len;
-    buffers::clear_from(out, written);
-    buffers::clear_from(left, len);
+    let e = runs::expansion_call::preprocess_typst(bundle, text, sheet, out, left);
+    buffers::clear_from(out, e.len);
+    buffers::clear_from(left, e.sheet);
     Expanded {
-        number: 0,
-        len: written,
-        sheet: len,
+        number: e.number,
+        len: e.len,
+        sheet: e.sheet,
+    }
+}
+
+// The answer of the definitions call: the length of the sheet.
+#[repr(C)]
+pub struct Defined {
+    pub number: u8,
+    pub sheet: usize,
+}
+
+// The sheet of a file of definitions: 1, 2, 4, 5, 6, then in reading 9, 7, 4, 5, 6.
+pub fn parse_definitions(bundle: &[u8], path: &[u8], left: &mut [u8], work: &mut [u8]) -> Defined
+    ensures { λ r. ⌜ parseDefinitionsOf (now (bundle .entry)) (now (path .entry)) (length (now (left .entry))) (length (now (work .entry))) ≡ record { number = r .number; sheetLen = r .sheet; left = now (left .exit); work = now (work .exit) } ⌝ }
+{
+    let d = define::parse_definitions(bundle, path, left, work);
+    buffers::clear_from(left, d.sheet);
+    buffers::clear_from(work, 0);
+    Defined {
+        number: d.number,
+        sheet: d.sheet,
+    }
+}
+
+// A pass's answer: the lengths of the text in the output buffer and of the sheet that is left, and whether the text is closed.
+#[repr(C)]
+pub struct Passed {
+    pub number: u8,
+    pub len: usize,
+    pub sheet: usize,
+    pub closed: bool,
+}
+
+// A pass over a text, and the sheet with the text's bindings: 2, 3, 4, 6, 9 for the sheet given; then in reading the includes with 10,
+// and the expansion with 9 and 11. Refused, every byte of the three buffers is zero.
+pub fn pass(
+    bundle: &[u8],
+    folder: &[u8],
+    text: &[u8],
+    sheet: &[u8],
+    middle: &mut [u8],
+    out: &mut [u8],
+    left: &mut [u8],
+) -> Passed
+    ensures { λ r. ⌜ passOf (now (bundle .entry)) (now (folder .entry)) (now (text .entry)) (now (sheet .entry)) (length (now (middle .entry))) (length (now (out .entry))) (length (now (left .entry))) ≡ record { number = r .number; len = r .len; sheetLen = r .sheet; closed = r .closed; middle = now (middle .exit); out = now (out .exit); left = now (left .exit) } ⌝ }
+{
+    let p = runs::pass_call::pass(bundle, folder, text, sheet, middle, out, left);
+    buffers::clear_from(middle, 0);
+    buffers::clear_from(out, p.len);
+    buffers::clear_from(left, p.sheet);
+    Passed {
+        number: p.number,
+        len: p.len,
+        sheet: p.sheet,
+        closed: p.closed,
     }
 }
 

@@ -1,6 +1,6 @@
 // Binding the names of an import (document 01, section 7).
-use scan::Set;
 use binding::Bound;
+use scan::Set;
 use sheet::lookup::Found;
 use sheet::lookup::item;
 use sheet::lookup::skip;

@@ -1,6 +1,6 @@
 // The step `#let` of a file of definitions, from behind its mark.
-use scan::Set;
 use binding::Bound;
+use scan::Set;
 ghost use mathlib.Core.Path.{_≡_};
 ghost use mathlib.Core.Bool.{true};
 ghost use Prim.Native.Nat.{_≤_};

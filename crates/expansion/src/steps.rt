@@ -1,7 +1,7 @@
 // The steps of the expansion that call neither `raw` nor `link`. Each reads from behind its mark.
+use binding::Bound;
 use scan::Set;
 use scan::paths::trim;
-use binding::Bound;
 use sheet::lookup::Found;
 ghost use mathlib.Core.Path.{_≡_};
 ghost use mathlib.Core.Bool.{true};

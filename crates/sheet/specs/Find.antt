@@ -24,6 +24,7 @@ use Rattle.sheet.specs.declared.lookup.Found.the-variants.{Missing, None
 pub record HasRecords (s : List ℕ) : Type 0 where
   pub r : Records
   pub bytes : s ≡ encode r
+
 -- The bytes of good records.
 pub record IsSheet (s : List ℕ) : Type 0 where
   pub r : Records

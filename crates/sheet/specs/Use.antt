@@ -41,6 +41,13 @@ checked b a h =
 pub to-look : {b : List ℕ} → Checked b → IsSheet b
 to-look c = record { r = c .r; bytes = c .bytes; good = c .good }
 
+-- A slice whose check says yes.
+pub known : (s : List ℕ) → ((i : ℕ) → getD s i 0 < 256) → isSome (sheetOf s) ≡ true → Checked s
+known s b h = checked s (all-bytes s b) h
+
+pub is-sheet : (s : List ℕ) → ((i : ℕ) → getD s i 0 < 256) → isSome (sheetOf s) ≡ true → IsSheet s
+is-sheet s b h = to-look (known s b h)
+
 -- What a lookup gave, where nothing is missing.
 pub found-there : (s : List ℕ) (x : Option Value) (f : Found) → Gives s x f → (f ≡ Missing → ⊥) → (v : Value) × (x ≡ some v) × Gives s (some v) f
 unfolding Gives

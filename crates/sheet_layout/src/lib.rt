@@ -1,11 +1,11 @@
 // The layout check (refusal 3): every rule of section 2, each byte looked at a few times.
+use scan::Set;
 use sheet::head::BINDING;
 use sheet::head::ENTRY;
 use sheet::head::Head;
 use sheet::head::Item;
 use sheet::head::read;
 use sheet::lookup::order;
-use scan::Set;
 ghost use mathlib.Core.Path.{_≡_};
 ghost use Prim.Native.Nat.{_≤_};
 ghost use lib.ListN.{length, drop};

@@ -1,6 +1,6 @@
 // Values of definitions (document 01, section 7): a text, none, or a dictionary, which holds values.
-use scan::Set;
 use binding::Bound;
+use scan::Set;
 use sheet::head::DICTIONARY;
 use sheet::head::NONE;
 use sheet::head::TEXT;
@@ -173,17 +173,7 @@ fn dictionary(
             return no_value(v.number, v.at);
         }
         let end = limit + v.len;
-        let o = binding::bind_behind(
-            work,
-            n,
-            last,
-            room,
-            &text[j..k],
-            v.bit,
-            v.count,
-            limit,
-            end,
-        );
+        let o = binding::bind_behind(work, n, last, room, &text[j..k], v.bit, v.count, limit, end);
         let bound = o.bound;
         match bound {
             Bound::Over => return no_value(9, v.at),

@@ -10,7 +10,8 @@ use Rattle.sheet.proofs.lookup.lookup.Reads as lookup-reads
 use mathlib.Core.Path.{_≡_, refl, sym, ap, _∙_}
 use native.Mathlib.Omega.{arith}
 use borrow.Author.Tests.{not-true, not-false}
-use Rattle.builder.specs.Laws.{is-sheet, resolve-three, resolve-six, resolve-kind}
+use Rattle.sheet.specs.Use.{is-sheet}
+use Rattle.builder.specs.Laws.{resolve-three, resolve-six, resolve-kind}
 
 check-requires : tie.Need-check-requires
 check-requires c κs = search needs

@@ -1,0 +1,4 @@
+pub mod Outcome
+pub mod Includes
+pub mod Expansion
+pub mod Pass
