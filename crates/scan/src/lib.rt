@@ -32,7 +32,7 @@ pub enum Set {
     Ascii,
 }
 
-// Is the byte one of the set with this number?
+// Is the byte in the set?
 pub fn member(set: Set, x: u8) -> bool
     ensures { λ r. ⌜ r ≡ member set x ⌝ }
 {
