@@ -89,8 +89,9 @@ struct wf_defined {
 struct wf_defined wf_parse_definitions(const uint8_t *bundle, size_t bundle_len, const uint8_t *path, size_t path_len,
                                        uint8_t *left, size_t left_len, uint8_t *work, size_t work_len);
 
-/* A pass: the first len bytes of out, the first sheet_len bytes of left, and 0 behind them. closed: is the text closed, so that the text
- * that follows it can be passed over by itself, from the sheet that is left here. */
+/* A pass: the first len bytes of out, the first sheet_len bytes of left, and 0 behind them. closed: is the text closed (document 01,
+ * section 6). What follows a closed text can be given to a further pass, which starts from the sheet that is left here; where one pass over
+ * both texts is accepted, the two outputs joined are its output. */
 struct wf_passed {
     uint8_t number;
     size_t len;

@@ -63,7 +63,8 @@ pub struct Passed {
     pub len: usize,
     /// How many bytes of the sheet buffer the sheet takes. Those behind it are 0.
     pub sheet_len: usize,
-    /// The text that follows can be passed over by itself, from the sheet that is left.
+    /// Is the text closed (document 01, section 6)? What follows a closed text can be given to a further pass, which starts from the
+    /// sheet that is left here; where one pass over both texts is accepted, the two outputs joined are its output.
     pub closed: bool,
 }
 
