@@ -8,6 +8,7 @@ import unittest
 
 TOOLS = os.path.dirname(os.path.abspath(__file__))
 ECHO = '#!/bin/sh\nwc -c | tr -d " "\nexit 0\n'
+SOURCES = ('crates.txt', 'crates', 'crates/a', 'crates/a/src', 'crates/a/src/lib')
 
 
 class Manual(unittest.TestCase):
@@ -75,13 +76,69 @@ class Manual(unittest.TestCase):
         self.assertEqual((r.returncode, r.stdout), (1, b''))
         self.assertIn(b'a b: ', r.stderr)
 
-    def test_the_program_is_built_where_it_is_absent(self):
-        made = 'mkdir -p target/bin && cp echo target/bin/manual'
+    def rt(self, ends=0, then=':'):
+        """Stands in for rt: `rt check manual` makes a program that answers as ECHO, and a line in `runs`."""
         self.put('echo', ECHO, 0o755)
-        self.put('bin/rt', f'#!/bin/sh\n[ "$*" = "check manual" ] && {made}\n', 0o755)
+        made = 'mkdir -p target/bin && cp echo target/bin/manual && echo ran >> runs'
+        self.put('bin/rt', f'#!/bin/sh\n[ "$*" = "check manual" ] && {made} && {then}\nexit {ends}\n', 0o755)
+
+    def runs(self):
+        path = os.path.join(self.root, 'runs')
+        if not os.path.exists(path):
+            return 0
+        with open(path) as f:
+            return len(f.readlines())
+
+    def at(self, time, *paths):
+        for path in paths:
+            os.utime(os.path.join(self.root, path), (time, time))
+
+    def built_before(self):
+        """Sources of the time 100, and a program that answers otherwise than what rt builds."""
+        self.rt()
+        self.put('crates/a/src/lib', 'x')
+        self.put('crates.txt', 'a:')
+        self.program('#!/bin/sh\ncat > /dev/null\necho old\n')
+        self.at(100, *SOURCES)
+
+    def test_the_program_is_built_where_it_is_absent(self):
+        self.rt()
         r = self.run_manual()
         self.assertEqual((r.returncode, r.stdout), (0, b'18\n'))
         self.assertIn(b'rt check manual', r.stderr)
+
+    def test_the_program_is_kept_where_it_is_as_new_as_its_sources(self):
+        self.built_before()
+        for time in (100, 101):
+            self.at(time, 'target/bin/manual')
+            r = self.run_manual()
+            self.assertEqual((r.returncode, r.stdout, r.stderr), (0, b'old\n', b''))
+        self.assertEqual(self.runs(), 0)
+
+    def test_the_program_is_built_once_where_a_source_is_newer(self):
+        for n, path in enumerate(SOURCES):
+            self.built_before()
+            self.at(101, 'target/bin/manual')
+            self.at(102, path)
+            r = self.run_manual()
+            self.assertEqual((r.returncode, r.stdout), (0, b'18\n'), path)
+            self.assertIn(b'older than its sources', r.stderr)
+            self.assertEqual((self.run_manual().stderr, self.runs()), (b'', n + 1))
+
+    def test_a_source_that_changes_during_the_check_is_newer(self):
+        self.built_before()
+        self.rt(then='echo y > crates/a/src/lib')
+        self.at(99, 'target/bin/manual')
+        self.run_manual()
+        self.assertIn(b'older than its sources', self.run_manual().stderr)
+
+    def test_an_older_program_is_not_run_where_the_check_fails(self):
+        self.built_before()
+        self.rt(ends=1)
+        self.at(99, 'target/bin/manual')
+        r = self.run_manual()
+        self.assertEqual((r.returncode, r.stdout), (1, b''))
+        self.assertIn(b'not proved', r.stderr)
 
     def test_the_program_cannot_be_built(self):
         self.put('bin/rt', '#!/bin/sh\necho no; exit 1\n', 0o755)
