@@ -16,14 +16,15 @@ use Rattle.rules.specs.Reader.{all}
 use Rattle.rules.specs.Run.{fail, unrefused}
 use Rattle.rules.specs.Bytes.{ascii, isFolder}
 use Rattle.rules.specs.Bundle.{Entry, bundleOf}
-use Rattle.rules.specs.Calls.{limit, zeros, Holds, resolveResult, resolveOf, kindAnswer, Kind, resolveStringResult, resolveStringOf, outputAnswer, Output, findFileOf, foundAnswer, Found, resolveIncludesResult, resolveIncludesOf, preprocessTypstResult, preprocessTypstOf, expandedAnswer, Expanded, parseDefinitionsResult, parseDefinitionsOf, definedAnswer, Defined, passResult, passOf, passedAnswer, Passed, closedOf}
+use Rattle.rules.specs.Calls.{limit, zeros, padded, Holds, resolveResult, resolveOf, kindAnswer, Kind, resolveStringResult, resolveStringOf, outputAnswer, Output, findFileOf, foundAnswer, Found, resolveIncludesResult, resolveIncludesOf, preprocessTypstResult, preprocessTypstOf, expandedAnswer, Expanded, parseDefinitionsResult, parseDefinitionsOf, definedAnswer, Defined, passResult, passOf, passedAnswer, Passed, closedOf}
 use Rattle.rules.specs.Files.{View, view, fetch}
 use Rattle.rules.specs.Sheet.{Records, sheetLength, sheetOf}
 use Rattle.rules.specs.Expansion.{expansionStep}
-use Rattle.rules.specs.Manual.{built, shown, manual}
+use Rattle.rules.specs.Manual.{built, shown, manual, manualOf}
 use Rattle.rules.specs.Parts.{Setting, pass, isClosed, sheetLeft}
 use Rattle.rules.specs.Laws.Calls.{refused-form, number-form, parseDefinitions-holds, parseDefinitions-work, parseDefinitions-sheet, resolve-numbered, resolveString-numbered, resolveIncludes-numbered, preprocessTypst-numbered, parseDefinitions-numbered, resolveString-holds, resolveIncludes-holds, preprocessTypst-holds, pass-holds, pass-middle, pass-closed, find-refused, pass-sheet}
 use Rattle.rules.specs.Laws.Found.{found-there, found-inside}
+use Rattle.rules.specs.Laws.Manual.{manual-holds}
 use Rattle.rules.specs.Laws.Parts.{result-numbered}
 use Rattle.rules.specs.Laws.Order.{order}
 use Rattle.rules.specs.Laws.Once.{refused-alone, expansion-once}
@@ -133,10 +134,14 @@ arguments-first k sheet text =
 pub read-whole : (v : View) (s : Records) (text : List ℕ) → unrefused (expansionStep v s text .0 .emit) ≡ false → (k : ℕ) × (expansionStep v s text .0 .emit ≡ fail k)
 read-whole v s text h = refused-alone (expansionStep v s text .0 .emit) (expansion-once v s text) h
 
--- MANUAL. What it writes is decided by the first 16,385 bytes of its input, and it reads no more.
-pub manual-cut : (input : List ℕ) → manual (take 16385 input) ≡ manual input
-unfolding manual built check _>>_
-manual-cut input = go (decLe (length input) 16385)
+-- MANUAL. Its text fits the buffer, and zero stands behind it.
+pub manual-written : (input : List ℕ) → let r = manualOf input in Holds 32768 (r .len) (r .out)
+manual-written input = manual-holds input
+
+-- What it answers is decided by the first 16,385 bytes of its input, and it reads no more.
+pub manual-cut : (input : List ℕ) → manualOf (take 16385 input) ≡ manualOf input
+unfolding manualOf manual built check _>>_
+manual-cut input = ap (λ t. record { len = length t; out = padded 32768 t }) (go (decLe (length input) 16385))
   where
     long : (b : List ℕ) → 16384 < length b → manual b ≡ shown (refused 2)
     long b h = rw (lt-leb (length b) 16384 h) refl

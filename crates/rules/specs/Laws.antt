@@ -22,3 +22,4 @@ pub mod Definitions
 pub mod Parts
 pub mod Calls
 pub mod Found
+pub mod Manual

@@ -8,7 +8,7 @@ use Rattle.rules.specs.Answer.{Answer, refused, accepted, _>>=_, _>>_, c
 use Rattle.rules.specs.Reader.{bytes}
 use Rattle.rules.specs.Bundle.{bundleOf}
 use Rattle.rules.specs.Files.{view, fetch}
-use Rattle.rules.specs.Calls.{Defined, Passed, parseDefinitionsOf, passOf}
+use Rattle.rules.specs.Calls.{padded, Defined, Passed, parseDefinitionsOf, passOf}
 
 -- The numbers of section 8 in decimal: below 100.
 unfoldable pub decimal : ℕ → List ℕ
@@ -41,3 +41,11 @@ shown (accepted o) = o
 
 unfoldable pub manual : List ℕ → List ℕ
 manual b = shown (built b)
+
+-- What the function behind the program answers: the length of that text, and its buffer, which holds the text and zero behind it.
+pub record ManualText : Type 0 where
+  pub len : ℕ
+  pub out : List ℕ
+
+unfoldable pub manualOf : List ℕ → ManualText
+manualOf b = record { len = length (manual b); out = padded 32768 (manual b) }

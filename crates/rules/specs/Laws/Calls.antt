@@ -48,7 +48,7 @@ module _ {A R : Type 0} (form : Answer A → R) (number : R → ℕ) (of-refused
   number-form (accepted a) n = rw (of-accepted a) refl
 
 -- BUFFERS. A padded result, and an empty one.
-holds-padded : (n : ℕ) (o : List ℕ) → length o ≤ n → Holds n (length o) (padded n o)
+pub holds-padded : (n : ℕ) (o : List ℕ) → length o ≤ n → Holds n (length o) (padded n o)
 unfolding padded zeros
 holds-padded n o h = record {
   size = simp (length-append, length-replicate) (omega arith);
