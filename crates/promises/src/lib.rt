@@ -1,1 +1,1 @@
-// The rules of document 01 are definitions, in specs/; this crate has no code.
+// Theorems over the definitions of `rules`, in specs/; this crate has no code.
