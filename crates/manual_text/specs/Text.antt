@@ -4,18 +4,19 @@ use mathlib.Core.List.{List, [], _∷_, _++_}
 use mathlib.Core.Bool.{Bool}
 use Prim.Native.Nat.{ℕ, zero, suc, _+_, _-_, _/_, _%_, _≤_, _<_}
 use native.Mathlib.Omega.{arith}
-use lib.ListN.{length, take, drop}
-use lib.Seq.{sets, length-sets}
+use lib.ListN.{length, take, drop, take-append-drop}
+use lib.Seq.{sets, length-sets, length-take-le}
 use borrow.Author.Tests.{le-leb, lt-leb, le-ltb, lt-ltb}
 use Rattle.rules.specs.Answer.{Answer, refused, accepted, _>>=_, _>>_, check, orRefuse}
 use Rattle.rules.specs.Reader.{bytes}
 use Rattle.rules.specs.Bundle.{bundleOf}
 use Rattle.rules.specs.Files.{view, fetch}
-use Rattle.rules.specs.Calls.{findFileOf, parseDefinitionsOf, passOf}
+use Rattle.rules.specs.Calls.{zeros, padded, findFileOf, parseDefinitionsOf, passOf}
 use Rattle.rules.specs.Parts.{pass}
-use Rattle.rules.specs.Manual.{decimal, answered, sheetFrom, outputFrom, built, shown, manual}
+use Rattle.rules.specs.Manual.{decimal, answered, sheetFrom, outputFrom, built, shown, manual, manualOf}
 use Rattle.rules.specs.Laws.Calls.{parseDefinitions-holds, pass-holds}
 use Rattle.rules.specs.Laws.Found.{contentFrom, content-refused, content-absent, content-there, found-content, found-inside}
+use Rattle.rules.specs.Laws.Manual.{manual-holds}
 use Rattle.buffers.specs.Laws.{sets-append, stored-first}
 use Rattle.manual_text.specs.declared.Built.{Built}
 
@@ -23,11 +24,12 @@ use Rattle.manual_text.specs.declared.Built.{Built}
 unfoldable pub mainText : List ℕ → List ℕ → Answer (List ℕ)
 mainText b s = orRefuse 2 (bundleOf b) >>= λ es. fetch (view es) (bytes "main.typ") >>= λ t. outputFrom (passOf b [] t s 32768 32768 1024)
 
--- a is built: its text stands at the start of the buffer, or its number is answered.
+-- a is built: its text stands at the start of the buffer, and zero behind it; or its number is answered.
 pub record Builds (a : Answer (List ℕ)) (out out₂ : List ℕ) (r : Built) : Type 0 where
   pub size : length out₂ ≡ length out
   pub fits : r .len ≤ length out
   pub says : a ≡ answered (r .number) (take (r .len) out₂)
+  pub behind : r .number ≡ 0 → drop (r .len) out₂ ≡ zeros (length out₂ - r .len)
 
 -- The text t stands at the start of the buffer.
 pub record Shows (t out out₂ : List ℕ) (n : ℕ) : Type 0 where
@@ -51,19 +53,24 @@ answered-accepted k r h = rw h refl
 
 -- Nothing is built.
 pub builds-refused : {a : Answer (List ℕ)} {out : List ℕ} {k : ℕ} → a ≡ refused k → (k ≡ 0 → ⊥) → Builds a out out (record { number = k; len = 0 })
-builds-refused {out = out} {k} e h = record { size = refl; fits = omega arith; says = e ∙ sym (answered-refused k _ h) }
+builds-refused {out = out} {k} e h = record { size = refl; fits = omega arith; says = e ∙ sym (answered-refused k _ h); behind = λ z. absurd (h z) }
 
 pub builds-same : {a c : Answer (List ℕ)} {out out₂ : List ℕ} {r : Built} → a ≡ c → Builds c out out₂ r → Builds a out out₂ r
-builds-same e s = record { size = s .size; fits = s .fits; says = e ∙ s .says }
+builds-same e s = record { size = s .size; fits = s .fits; says = e ∙ s .says; behind = s .behind }
 
 -- THE PASS.
 pub pass-builds : (b t s : List ℕ) {m n l : ℕ} {o m₂ o₂ l₂ : List ℕ} {k x z : ℕ} {c : Bool} → 32768 ≡ m → 32768 ≡ n → 1024 ≡ l → n ≡ length o →
     passOf b [] t s m n l ≡ record { number = k; len = x; sheetLen = z; closed = c; middle = m₂; out = o₂; left = l₂ } →
     Builds (outputFrom (passOf b [] t s 32768 32768 1024)) o o₂ (record { number = k; len = x })
 unfolding outputFrom pass
-pass-builds b t s {m} {n} {l} {o} e₁ e₂ e₃ e₄ e =
+pass-builds b t s {m} {n} {l} {o} {x = x} e₁ e₂ e₃ e₄ e =
     let h = rw e at (pass-holds (record { bundle = b; folder = []; middleLen = m; outLen = n; leftLen = l }) s t .output) in
-    record { size = h .size ∙ e₄; fits = omega (arith, h .fits); says = (λ i. outputFrom (passOf b [] t s (e₁ i) (e₂ i) (e₃ i))) ∙ ap outputFrom e }
+    record {
+      size = h .size ∙ e₄;
+      fits = omega (arith, h .fits);
+      says = (λ i. outputFrom (passOf b [] t s (e₁ i) (e₂ i) (e₃ i))) ∙ ap outputFrom e;
+      behind = λ z. h .behind ∙ ap (λ i. zeros (i - x)) (sym (h .size));
+    }
 
 -- The file.
 module _ (b s : List ℕ) {k kind i n : ℕ} (f : findFileOf b (bytes "main.typ") ≡ record { number = k; kind = kind; start = i; len = n }) where
@@ -134,12 +141,36 @@ pub refusal-two : (k : ℕ) {o o₁ o₂ : List ℕ} → 10 ≤ k → 32768 ≡ 
 unfolding shown decimal
 refusal-two k h l e₁ e₂ = let z : decimal k ≡ (48 + k / 10) ∷ (48 + k % 10) ∷ [] = rw (le-ltb k 10 h, decimal) refl in refusal {d = (48 + k / 10) ∷ (48 + k % 10) ∷ 10 ∷ []} l e₁ e₂ (omega arith) refl (ap (λ x. bytes "refused " ++ (x ++ bytes "\n")) (sym z))
 
--- WHAT IS WRITTEN.
-module _ (b : List ℕ) {o o₂ : List ℕ} {r : Built} (B : Builds (built b) o o₂ r) where
-  pub manual-output : r .number ≡ 0 → Shows (manual b) o o₂ (r .len)
-  unfolding manual shown
-  manual-output h = record { size = B .size; fits = B .fits; is = sym (ap shown (B .says ∙ answered-accepted (r .number) _ h)) }
+-- WHAT IS WRITTEN: n bytes of the buffer o, and zero behind them.
+answers : (b : List ℕ) {n : ℕ} (o : List ℕ) {o₂ : List ℕ} → 32768 ≡ length o → n ≤ length o → take n o ≡ manual b → padded (length o) (take n o) ≡ o₂ → manualOf b ≡ record { len = n; out = o₂ }
+unfolding manualOf
+answers b {n} o l h e z =
+    let i : length (manual b) ≡ n = ap length (sym e) ∙ length-take-le n o h in
+    let j = ap (λ x. padded x (manual b)) l ∙ ap (padded (length o)) (sym e) ∙ z in
+    λ k. record { len = i k; out = j k }
 
-  pub manual-refused : (r .number ≡ 0 → ⊥) → {o₃ : List ℕ} {n : ℕ} → Shows (shown (refused (r .number))) o₂ o₃ n → Shows (manual b) o o₃ n
+-- A buffer that is zero behind its first n bytes.
+padded-take : (o : List ℕ) (n : ℕ) → n ≤ length o → drop n o ≡ zeros (length o - n) → padded (length o) (take n o) ≡ o
+unfolding padded
+padded-take o n h e = ap (λ i. take n o ++ zeros (length o - i)) (length-take-le n o h) ∙ ap (λ x. take n o ++ x) (sym e) ∙ take-append-drop n o
+
+module _ (b : List ℕ) {o o₂ : List ℕ} {r : Built} (l : 32768 ≡ length o) (B : Builds (built b) o o₂ r) where
+  pub manual-output : r .number ≡ 0 → manualOf b ≡ record { len = r .len; out = o₂ }
+  unfolding manual shown
+  manual-output h =
+      let f : r .len ≤ length o₂ = omega (arith, B .size, B .fits) in
+      answers b o₂ (l ∙ sym (B .size)) f (sym (ap shown (B .says ∙ answered-accepted (r .number) _ h)))
+      (padded-take o₂ (r .len) f (B .behind h))
+
+  -- The text of the refusal, n bytes, and the buffer cleared from there on.
+  pub manual-refused : (r .number ≡ 0 → ⊥) → {o₃ o₄ : List ℕ} {n : ℕ} → Shows (shown (refused (r .number))) o₂ o₃ n → o₄ ≡ padded (length o₃) (take n o₃) → manualOf b ≡ record { len = n; out = o₄ }
   unfolding manual
-  manual-refused h s = record { size = s .size ∙ B .size; fits = omega (arith, s .fits, B .size); is = s .is ∙ sym (ap shown (B .says ∙ answered-refused (r .number) _ h)) }
+  manual-refused h {o₃} s e =
+      answers b o₃ (l ∙ sym (s .size ∙ B .size)) (omega (arith, s .fits, s .size)) (s .is ∙ sym (ap shown (B .says ∙ answered-refused (r .number) _ h))) (sym e)
+
+-- What is written lies in the buffer.
+pub manual-size : (b : List ℕ) {n : ℕ} {o : List ℕ} → manualOf b ≡ record { len = n; out = o } → length o ≡ 32768
+manual-size b e = rw e at (manual-holds b .size)
+
+pub manual-inside : (b : List ℕ) {n : ℕ} {o : List ℕ} → manualOf b ≡ record { len = n; out = o } → n ≤ length o
+manual-inside b e = let h = rw e at (manual-holds b) in omega (arith, h .size, h .fits)

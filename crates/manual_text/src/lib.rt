@@ -4,7 +4,7 @@ ghost use mathlib.Core.List.{[]};
 ghost use lib.ListN.{length};
 ghost use Rattle.rules.specs.Answer.{refused};
 ghost use Rattle.rules.specs.Calls.{passOf};
-ghost use Rattle.rules.specs.Manual.{outputFrom, built, shown, manual};
+ghost use Rattle.rules.specs.Manual.{outputFrom, built, shown, manualOf};
 ghost use Rattle.manual_text.specs.Text.{mainText, Builds, Shows};
 
 // What was built: number 0 and the length of the text in the output buffer, or the refusal's number.
@@ -101,13 +101,15 @@ fn refusal_text(number: u8, out: &mut [u8]) -> usize
     11
 }
 
-// What `manual` writes for a bundle: so many bytes at the start of `out`.
+// What `manual` writes for a bundle: so many bytes at the start of `out`, and zero behind them.
 pub fn manual(bundle: &[u8], out: &mut [u8; 32768]) -> usize
-    ensures { λ r. ⌜ Shows (manual (now (bundle .entry))) (now (out .entry)) (now (out .exit)) r ⌝ }
+    ensures { λ r. ⌜ manualOf (now (bundle .entry)) ≡ record { len = r; out = now (out .exit) } ⌝ }
 {
     let r = build(bundle, out);
     if r.number == 0 {
         return r.len;
     }
-    refusal_text(r.number, out)
+    let n = refusal_text(r.number, out);
+    buffers::clear_from(out, n);
+    n
 }
