@@ -14,11 +14,11 @@ fn output_buffer() -> [u8; 32768]
     [170; 32768]
 }
 
-// Is this what is written for the bundle?
+// Is this what is written for the bundle, and zero behind it?
 fn manual_same(bundle: &[u8], text: &[u8]) -> bool {
     let mut out = output_buffer();
     let n = manual_text::manual(bundle, &mut out);
-    (n == text.len()) & holds(&out[..n], text)
+    (n == text.len()) & holds(&out, text)
 }
 
 // Every case of the input: two fields, the bundle and the text.

@@ -9,8 +9,8 @@ use Rattle.manual.proofs.input_buffer.Reads as input-buffer-reads
 use Rattle.manual.proofs.output_buffer.Reads as output-buffer-reads
 use Rattle.manual_text.proofs.manual.Reads as manual-reads
 use mathlib.Core.Path.{sym}
-use native.Mathlib.Omega.{arith}
 use lib.Seq.{length-take-le}
+use Rattle.manual_text.specs.Text.{manual-inside}
 
 input-buffer-requires : tie.Need-input-buffer-requires
 input-buffer-requires c κs = search needs
@@ -34,10 +34,10 @@ manual-requires : tie.Need-manual-requires
 manual-requires c κs = search needs
 
 array-share-prefix-out : tie.Need-array-share-prefix-out
-array-share-prefix-out c = search needs
+array-share-prefix-out c = manual-inside _ (c .manual .ensures)
 
 slice-aggregate-write-all : tie.Need-slice-aggregate-write-all
-slice-aggregate-write-all c = sym (length-take-le _ _ (omega (arith, c .before .manual .ensures .fits, c .before .manual .ensures .size)))
+slice-aggregate-write-all c = sym (length-take-le _ _ (manual-inside _ (c .before .manual .ensures)))
 
 write-all-requires : tie.Need-write-all-requires
 write-all-requires c κs = search needs

@@ -7,8 +7,7 @@ use Rattle.cases.proofs.holds.Reads as holds-reads
 use Rattle.manual_text.proofs.manual.Reads as manual-reads
 use Rattle.manuals.proofs.output_buffer.Reads as output-buffer-reads
 use mathlib.Core.Path.{sym}
-use native.Mathlib.Omega.{arith}
-use lib.Seq.{length-take-le}
+use Rattle.manual_text.specs.Text.{manual-size}
 
 output-buffer-requires : tie.Need-output-buffer-requires
 output-buffer-requires c κs = search needs
@@ -16,11 +15,8 @@ output-buffer-requires c κs = search needs
 manual-requires : tie.Need-manual-requires
 manual-requires c κs = search needs
 
-array-share-prefix-out : tie.Need-array-share-prefix-out
-array-share-prefix-out c = search needs
-
 slice-aggregate-holds : tie.Need-slice-aggregate-holds
-slice-aggregate-holds c = sym (length-take-le _ _ (omega (arith, c .before .manual .ensures .fits, c .before .manual .ensures .size)))
+slice-aggregate-holds c = sym (manual-size _ (c .before .manual .ensures))
 
 holds-requires : tie.Need-holds-requires
 holds-requires c κs = search needs
@@ -31,10 +27,4 @@ returns c = search needs
 pub manual-same-spec : {M : Type 1} → statement M
 manual-same-spec =
     tie.close
-    (tie.spec
-    output-buffer-requires
-    manual-requires
-    array-share-prefix-out
-    slice-aggregate-holds
-    holds-requires
-    returns)
+    (tie.spec output-buffer-requires manual-requires slice-aggregate-holds holds-requires returns)
