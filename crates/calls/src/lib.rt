@@ -1,8 +1,4 @@
 // Calls (document 01, section 5): raw and link, read whole, then written.
-pub mod args;
-pub mod content;
-pub mod link;
-pub mod raw;
 pub mod values;
 
 // What a call comes to: handed back; refused; an output, and whether the call ends on its own `)` or `]`.

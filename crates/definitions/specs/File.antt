@@ -31,13 +31,13 @@ use Rattle.binding.specs.Use.{Holds, holds-sheet, Keeps, keeps-holds}
 use Rattle.binding.specs.declared.Bound.{Bound}
 use Rattle.binding.specs.declared.Bound.the-variants.{Over, Length}
 use Rattle.values.specs.Values.{slots, Room, room-two, room-behind, lent, lent-size, lent-first}
-use Rattle.definitions.specs.Names.{Ready, IsBound, BindsNames}
+use Rattle.definition_imports.specs.Names.{Ready, IsBound, BindsNames}
 use Rattle.definitions.specs.Steps.{Comes, DefinesLet, within}
-use Rattle.definitions.specs.Import.{comesTo, ImportsAt}
+use Rattle.definition_imports.specs.Import.{comesTo, ImportsAt}
 use Rattle.definitions.specs.declared.steps.Stepped.{Stepped}
 use Rattle.definitions.specs.declared.files.Parsed.{Parsed}
-use Rattle.definitions.specs.declared.imports.Target.the-variants.{Nothing, Refused, File as Found-at}
-use Rattle.definitions.specs.declared.imports.Imported.{Imported}
+use Rattle.definition_imports.specs.declared.imports.Target.the-variants.{Nothing, Refused, File as Found-at}
+use Rattle.definition_imports.specs.declared.imports.Imported.{Imported}
 
 abbrev pub stepped : Bool → ℕ → ℕ → ℕ → ℕ → Stepped
 stepped o k at len last = record { ok = o; number = k; at = at; len = len; last = last }

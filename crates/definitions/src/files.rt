@@ -1,10 +1,10 @@
 // A file of definitions (document 01, section 7): its steps, and the files that it imports, each read with one level fewer.
-use crate::imports::Target;
-use crate::imports::find_import;
-use crate::names::bind_names;
 use crate::steps::Stepped;
 use crate::steps::let_step;
 use binding::Bound;
+use definition_imports::imports::Target;
+use definition_imports::imports::find_import;
+use definition_imports::names::bind_names;
 ghost use mathlib.Core.Path.{_≡_};
 ghost use mathlib.Core.Bool.{true, false};
 ghost use Prim.Native.Nat.{ℕ, _+_, _≤_, _<_};

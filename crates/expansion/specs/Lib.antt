@@ -1,4 +1,3 @@
-pub mod Let
 pub mod Reference
 pub mod Call
 pub mod Step

@@ -16,19 +16,20 @@ use Rattle.sheet.specs.Find.{IsSheet}
 use Rattle.buffers.specs.Put.{Put, Writer}
 use Rattle.buffers.specs.Laws.{put-then, put-length}
 use Rattle.buffers.specs.Emits.{Emits, emits-put}
-use Rattle.expansion.specs.declared.steps.Went.{Went}
+use Rattle.expansion.specs.declared.WriteStep.{WriteStep}
 
 -- The step writes a text, and keeps the records.
-pub record Puts (t : List ℕ) (at : ℕ) (s : Records) (full room : ℕ) (b : List ℕ) (p : ℕ) (c : List ℕ) (r : Went) : Type 0 where
+pub record Puts (t : List ℕ) (at : ℕ) (s : Records) (full room : ℕ) (b : List ℕ) (p : ℕ) (c : List ℕ) (r : WriteStep) : Type 0 where
   pub text : List ℕ
   pub does : referenceStep s (drop at t) ≡ (writes s text, drop (r .at) t)
   pub emits : Emits full room (put text ok) b p c (r .ok) (r .number) (r .next)
 
 -- `#` and what is behind it, from `at` on, for the sheet z: reading goes on at r .at.
-pub record Refers (t : List ℕ) (at : ℕ) (z : List ℕ) (full room : ℕ) (b : List ℕ) (p : ℕ) (c : List ℕ) (r : Went) : Type 0 where
+pub record Refers (t : List ℕ) (at : ℕ) (z : List ℕ) (full room : ℕ) (b : List ℕ) (p : ℕ) (c : List ℕ) (r : WriteStep) : Type 0 where
   pub size : length c ≡ length b
   pub on : at ≤ r .at
   pub inside : r .at ≤ length t
+  pub whole : r .whole ≡ true
   pub puts : (s : IsSheet z) → Puts t at (s .r) full room b p c r
 
 -- LAWS. The step, by what the scans said.
@@ -48,29 +49,32 @@ module _ (s : Records) {t : List ℕ} {at : ℕ} {l : Bool} (x : Sees letter t a
 
 -- What is put.
 module _ {t : List ℕ} {at : ℕ} {l : Bool} (x : Sees letter t at l) {room p : ℕ} (w : Writer room p) (n : p ≤ room) {z : List ℕ} (full : ℕ) {b c : List ℕ} {q : ℕ} where
-  pub refers-other : l ≡ false → at ≤ length t → Put room b p (bytes "#") c q → Refers t at z full room b p c (record { ok = leb q room; number = full; at = at; next = q })
+  pub refers-other : l ≡ false → at ≤ length t → Put room b p (bytes "#") c q → Refers t at z full room b p c (record { ok = leb q room; number = full; whole = true; at = at; next = q })
   refers-other e i u = record {
     size = put-length u;
     on = omega arith;
     inside = i;
+    whole = refl;
     puts = λ s. record { text = bytes "#"; does = step-other (s .r) x e; emits = emits-put n u };
   }
 
   module _ (h : l ≡ true) {e : ℕ} (y : Spans runByte t at e) {f : Bool} (k : Sees (the "(") t e f) where
-    pub refers-called : f ≡ true → length b ≤ room → {d : List ℕ} {m : ℕ} → Put room b p (bytes "#") d m → Put room d m (part t at e) c q → Refers t at z full room b p c (record { ok = leb q room; number = full; at = e; next = q })
+    pub refers-called : f ≡ true → length b ≤ room → {d : List ℕ} {m : ℕ} → Put room b p (bytes "#") d m → Put room d m (part t at e) c q → Refers t at z full room b p c (record { ok = leb q room; number = full; whole = true; at = e; next = q })
     refers-called g o u v =
         let both = put-then u o (w .place) v in
         record {
           size = put-length both;
           on = y .on;
           inside = y .inside;
+          whole = refl;
           puts = λ s. record { text = bytes "#" ++ part t at e; does = step-called (s .r) x h y k g; emits = emits-put n both };
         }
 
-    pub refers-text : f ≡ false → IsSheet z → ((s : IsSheet z) → Put room b p (resolveString (s .r) (underscored (part t at e))) c q) → Refers t at z full room b p c (record { ok = leb q room; number = full; at = e; next = q })
+    pub refers-text : f ≡ false → IsSheet z → ((s : IsSheet z) → Put room b p (resolveString (s .r) (underscored (part t at e))) c q) → Refers t at z full room b p c (record { ok = leb q room; number = full; whole = true; at = e; next = q })
     refers-text g i u = record {
       size = put-length (u i);
       on = y .on;
       inside = y .inside;
+      whole = refl;
       puts = λ s. record { text = resolveString (s .r) (underscored (part t at e)); does = step-reference (s .r) x h y k g; emits = emits-put n (u s) };
     }

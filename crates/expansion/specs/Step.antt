@@ -15,12 +15,11 @@ use Rattle.scan.specs.Sets.{Starts}
 use Rattle.scan.specs.Laws.{mark-yes, mark-no}
 use Rattle.buffers.specs.Emits.{Emits, emits-ok, guard, guard-yes, guard-no}
 use Rattle.sheet.specs.Find.{IsSheet}
-use Rattle.expansion.specs.declared.call_steps.WriteStep.{WriteStep}
-use Rattle.expansion.specs.declared.steps.Let.{Let}
-use Rattle.expansion.specs.declared.steps.Went.{Went}
+use Rattle.expansion.specs.declared.WriteStep.{WriteStep}
+use Rattle.let_steps.specs.declared.Let.{Let}
 use Rattle.expansion.specs.declared.step.Stepped.{Stepped}
 use Rattle.binding.specs.Use.{Holds, holds-sheet}
-use Rattle.expansion.specs.Let.{Imports, Lets}
+use Rattle.let_steps.specs.Let.{Imports, Lets}
 use Rattle.expansion.specs.Reference.{Refers}
 use Rattle.expansion.specs.Call.{Does, StepsBy}
 
@@ -96,7 +95,7 @@ module _ {full : ℕ} {v : View} {t : List ℕ} {at : ℕ} (u : Unbound t at) {a
       does = λ s. subst (λ x. Does full x (s .r) t b p c r) (sym (choose-link v (s .r) u R na K e)) (w .does s);
     }
 
-    pub writes-reference : {r : Went} → k ≡ false → Refers t (at + 1) z full (length b) b p c r → WritesAt full v t at z b p c (record { ok = r .ok; number = r .number; whole = true; at = r .at; next = r .next })
+    pub writes-reference : {r : WriteStep} → k ≡ false → Refers t (at + 1) z full (length b) b p c r → WritesAt full v t at z b p c r
     unfolding writes
     writes-reference {r} e w = record {
       size = w .size;
@@ -104,11 +103,11 @@ module _ {full : ℕ} {v : View} {t : List ℕ} {at : ℕ} (u : Unbound t at) {a
       inside = w .inside;
       does = λ s.
           let y = w .puts s in
-          subst (λ x. Does full x (s .r) t b p c (record { ok = r .ok; number = r .number; whole = true; at = r .at; next = r .next })) (sym (choose-reference v (s .r) u R na K e ∙ y .does)) (record {
+          subst (λ x. Does full x (s .r) t b p c r) (sym (choose-reference v (s .r) u R na K e ∙ y .does)) (record {
             emits = y .emits;
             state = refl;
             rest = λ h. refl;
-            wholes = λ h. refl;
+            wholes = λ h. sym (w .whole);
           });
     }
 

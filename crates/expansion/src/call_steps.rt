@@ -1,4 +1,5 @@
 // The steps `#raw` and `#link`, each from its mark.
+use crate::WriteStep;
 use calls::Called;
 use calls::Outcome;
 use scan::Set;
@@ -16,15 +17,6 @@ ghost use Rattle.scan.specs.Sets.{part, Starts};
 ghost use Rattle.bundle.specs.Find.{entriesOf};
 ghost use Rattle.sheet.specs.Find.{IsSheet};
 ghost use Rattle.expansion.specs.Call.{Shows, Ends, StepsBy};
-
-// What a call's step came to: has all been written; if not, the refusal's number; is it whole (section 6); where reading goes on, and the writer.
-pub struct WriteStep {
-    pub ok: bool,
-    pub number: u8,
-    pub whole: bool,
-    pub at: usize,
-    pub next: usize,
-}
 
 // Outputs the mark and the blanks behind it, from `at` to `end`, and goes on there.
 fn show(
@@ -100,7 +92,7 @@ pub fn raw_step(
     if !scan::at(text, i, b'(') {
         return show(text, at, i, true, out, p, full);
     }
-    let c = calls::raw::raw(b, text, i + 1, sheet, out, p);
+    let c = raw_call::raw::raw(b, text, i + 1, sheet, out, p);
     end_call(c, text, at, i, out, p, full)
 }
 
@@ -120,6 +112,6 @@ pub fn link_step(
     if !scan::at(text, i, b'(') {
         return show(text, at, i, true, out, p, full);
     }
-    let c = calls::link::link(text, i + 1, sheet, out, p);
+    let c = link_call::link(text, i + 1, sheet, out, p);
     end_call(c, text, at, i, out, p, full)
 }

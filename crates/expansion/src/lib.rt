@@ -13,8 +13,17 @@ ghost use Rattle.binding.specs.Use.{Keeps};
 ghost use Rattle.expansion.specs.Run.{Expands};
 
 pub mod call_steps;
+pub mod reference;
 pub mod step;
-pub mod steps;
+
+// What a step that writes came to: has all been written; if not, the refusal's number; is it whole (section 6); where reading goes on, and the writer.
+pub struct WriteStep {
+    pub ok: bool,
+    pub number: u8,
+    pub whole: bool,
+    pub at: usize,
+    pub next: usize,
+}
 
 // What expanding a text came to: has all been written and the sheet stayed within its limit; if not, the refusal's number; where the
 // writer goes on and the sheet's length; and, if all has been written, whether each step is whole (section 6).

@@ -1,10 +1,10 @@
 // One step of the expansion at a `#`, by the first of the marks that stands there.
-use crate::call_steps::WriteStep;
+use crate::WriteStep;
 use crate::call_steps::link_step;
 use crate::call_steps::raw_step;
-use crate::steps::import_step;
-use crate::steps::let_step;
-use crate::steps::reference_step;
+use crate::reference::reference_step;
+use let_steps::import_step;
+use let_steps::let_step;
 ghost use mathlib.Core.Path.{_≡_};
 ghost use mathlib.Core.Bool.{true};
 ghost use Prim.Native.Nat.{_≤_};
@@ -40,14 +40,7 @@ fn writing_step(
         return link_step(text, at, sheet, out, p, full);
     }
     let room = out.len();
-    let r = reference_step(text, at + 1, sheet, out, room, p, full);
-    WriteStep {
-        ok: r.ok,
-        number: r.number,
-        whole: true,
-        at: r.at,
-        next: r.next,
-    }
+    reference_step(text, at + 1, sheet, out, room, p, full)
 }
 
 // What a step came to: has all been written and the sheet stayed within its limit; if not, the refusal's number; is it whole

@@ -12,7 +12,7 @@ use Rattle.definitions.proofs.files.bind_imported.Reads as bind-importe
 use Rattle.definitions.proofs.files.bound_step.Reads as bound-step-reads
 use Rattle.definitions.proofs.files.ended.Reads as ended-reads
 use Rattle.definitions.proofs.files.other_step.Reads as other-step-reads
-use Rattle.definitions.proofs.imports.find_import.Reads as find-import-reads
+use Rattle.definition_imports.proofs.imports.find_import.Reads as find-import-reads
 use Rattle.scan.proofs.starts_with.Reads as starts-with-reads
 use Rattle.definitions.proofs.files.+parse+step.{statement}
 use Rattle.definitions.proofs.files.+parse+step.Tie.{close}
@@ -29,7 +29,7 @@ use Rattle.rules.specs.Definitions.{definitionStep}
 use Rattle.rules.specs.Imports.{imported, importedSheet}
 use Rattle.bundle.specs.Find.{entriesOf}
 use Rattle.scan.specs.Laws.{starts-as}
-use Rattle.definitions.specs.Import.{file-there}
+use Rattle.definition_imports.specs.Import.{file-there}
 use Rattle.definitions.specs.File.{Parsing, parsing-start, parsing-keeps, parsing-on, parsed-no, parsed, steps-as, room-value, import-nothing, import-refused, import-stopped, import-bound, save-two, save-room, lent-long, lent-saved, lent-swap}
 
 abbrev μ-parse : Measures 5 parse-kinds.ps ℕ

@@ -3,7 +3,7 @@ use Rattle.expansion.proofs.call_steps.link_step.Statement.{statement}
 use Rattle.expansion.proofs.call_steps.link_step.Tie as tie
 use Rattle.expansion.proofs.call_steps.link_step.Reads as reads
 use Rattle.expansion.proofs.call_steps.link_step.Lts as lts
-use Rattle.calls.proofs.link.link.Reads as link-reads
+use Rattle.link_call.proofs.link.Reads as link-reads
 use Rattle.expansion.proofs.call_steps.end_call.Reads as end-call-reads
 use Rattle.expansion.proofs.call_steps.show.Reads as show-reads
 use Rattle.scan.proofs.at.Reads as at-reads

@@ -4,8 +4,8 @@ use Rattle.expansion.proofs.step.step.Tie as tie
 use Rattle.expansion.proofs.step.step.Reads as reads
 use Rattle.expansion.proofs.step.step.Lts as lts
 use Rattle.expansion.proofs.step.writing_step.Reads as writing-step-reads
-use Rattle.expansion.proofs.steps.import_step.Reads as import-step-reads
-use Rattle.expansion.proofs.steps.let_step.Reads as let-step-reads
+use Rattle.let_steps.proofs.import_step.Reads as import-step-reads
+use Rattle.let_steps.proofs.let_step.Reads as let-step-reads
 use Rattle.scan.proofs.starts_with.Reads as starts-with-reads
 use mathlib.Core.Path.{refl, sym}
 use lib.Seq.{length-take-le}

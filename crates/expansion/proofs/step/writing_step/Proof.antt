@@ -5,7 +5,7 @@ use Rattle.expansion.proofs.step.writing_step.Reads as reads
 use Rattle.expansion.proofs.step.writing_step.Lts as lts
 use Rattle.expansion.proofs.call_steps.link_step.Reads as link-step-reads
 use Rattle.expansion.proofs.call_steps.raw_step.Reads as raw-step-reads
-use Rattle.expansion.proofs.steps.reference_step.Reads as reference-step-reads
+use Rattle.expansion.proofs.reference.reference_step.Reads as reference-step-reads
 use Rattle.scan.proofs.starts_with.Reads as starts-with-reads
 use mathlib.Core.Path.{refl}
 use native.Mathlib.Omega.{arith}

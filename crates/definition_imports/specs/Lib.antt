@@ -1,0 +1,3 @@
+pub mod Names
+pub mod Words
+pub mod Import
