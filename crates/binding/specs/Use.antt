@@ -12,7 +12,7 @@ use Rattle.rules.specs.Reader.{all}
 use Rattle.rules.specs.Bytes.{word}
 use Rattle.rules.specs.Sheet.{Value, text, nothing, dictionary, Records, encode, sheetLength, goodRecords, goodValue, sheetOf, set}
 use Rattle.rules.specs.Laws.Bool.{and-i, ltb-true, isSome, true-some}
-use Rattle.rules.specs.Laws.Sheet.{isByte, sheet-good, sheet-canonical, set-good}
+use Rattle.rules.specs.Laws.Sheet.{sheet-good, sheet-canonical, set-good}
 use Rattle.sheet.specs.Find.{IsSheet, Gives}
 use Rattle.sheet.specs.declared.lookup.Found.{Found}
 use Rattle.sheet.specs.declared.lookup.Found.the-variants.{Missing, None, Text, Dictionary}

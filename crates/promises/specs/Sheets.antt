@@ -6,9 +6,9 @@ use mathlib.Core.Option.{some}
 use Prim.Native.Nat.{ℕ, _≤_}
 use lib.ListN.{length}
 use Rattle.rules.specs.Reader.{all}
-use Rattle.rules.specs.Bytes.{word}
+use Rattle.rules.specs.Bytes.{isByte, word}
 use Rattle.rules.specs.Sheet.{Records, encode, goodRecords, sheetOf}
-use Rattle.rules.specs.Laws.Sheet.{isByte, sheet-encode, sheet-canonical}
+use Rattle.rules.specs.Laws.Sheet.{sheet-encode, sheet-canonical}
 
 -- Records that keep the layout, at most 65,535 bytes of them, are read back from their bytes.
 pub read-back : (s : Records) → goodRecords s word 6 ≡ true → length (encode s) ≤ 65535 → sheetOf (encode s) ≡ some s

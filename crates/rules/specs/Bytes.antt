@@ -7,7 +7,10 @@ use lib.Dec.{leb, ltb, eqb}
 use lib.ListN.{length}
 use Rattle.rules.specs.Reader.{Reader, bytes, the, but, all, empty, prefix, same, span}
 
--- Texts hold bytes below 128.
+-- A byte is a number below 256. Texts hold bytes below 128.
+unfoldable pub isByte : ℕ → Bool
+isByte x = ltb x 256
+
 unfoldable pub ascii : ℕ → Bool
 ascii x = ltb x 128
 

@@ -8,7 +8,7 @@ use native.Mathlib.Omega.{arith}
 use lib.Dec.{leb, ltb, eqb}
 use lib.ListN.{length, length-append}
 use Rattle.rules.specs.Reader.{all, empty, prefix, same}
-use Rattle.rules.specs.Bytes.{ascii, word, nameByte, less, split}
+use Rattle.rules.specs.Bytes.{isByte, ascii, word, nameByte, less, split}
 use Rattle.rules.specs.Layout.{Parser, bind, _>>=_, _>>_, pure, broken, require, bit, byte, word16, takeBytes, field, fieldIf}
 use Rattle.rules.specs.Sheet.{Value, text, nothing, dictionary, Records, end, rec, word16Bytes, fieldBytes, fieldMask, count, valueMask, valueBytes, encode, sheetLength, value, oneRecord, someRecords, allRecords, levels, decode, before, goodValue, goodRecords, sheetOf, get, getFields, getPieces, resolve, textOf, resolveString, set}
 use Rattle.rules.specs.Laws.Bool.{and-l, and-r, and-i, and-false-r, or-i-l, or-i-r, or-elim, or-false-l, or-false-r, not-true, true-leb, leb-true, true-ltb, ltb-true, false-ltb, true-eqb, eqb-true, false-eqb}
@@ -360,10 +360,6 @@ unfolding decode
 decode-encode r p h = all-read r p 6 (length (encode r)) (count-le r) h
 
 -- WHAT IS READ IS WRITTEN BACK.
--- A byte is a number below 256.
-unfoldable pub isByte : ℕ → Bool
-isByte x = ltb x 256
-
 word16-written : (b : List ℕ) (y : ℕ × List ℕ) → all isByte b ≡ true → word16 b ≡ some y → b ≡ word16Bytes (y .0) ++ y .1
 unfolding word16 word16Bytes byte pure bind _>>=_ all isByte
 word16-written [] y a h = cc
