@@ -1,20 +1,20 @@
 -- What every answer of a public call says (01, sections 6 and 8).
 use mathlib.Core.Path.{_≡_, refl, sym, ap, _∙_}
 use mathlib.Core.Logic.{_≢_, _↔_}
-use mathlib.Core.List.{List}
+use mathlib.Core.List.{List, [], _∷_}
 use mathlib.Core.Bool.{Bool, true, false, _||_}
-use mathlib.Core.Option.{none, some}
-use Prim.Native.Nat.{ℕ, _+_, _≤_, _<_}
+use mathlib.Core.Option.{some}
+use Prim.Native.Nat.{ℕ, _+_, _*_, _≤_, _<_}
 use native.Mathlib.Omega.{arith}
 use native.Mathlib.Decide.{decLe}
 use lib.Dec.{leb, eqb}
 use lib.ListN.{length, take, drop}
 use lib.Seq.{take-all, length-take-le}
 use borrow.Author.Tests.{lt-leb}
-use Rattle.rules.specs.Answer.{refused, accepted, isRefusal, _>>_, check}
+use Rattle.rules.specs.Answer.{refused, accepted, isRefusal, _>>_, check, isSome, firstBroken}
 use Rattle.rules.specs.Reader.{all}
 use Rattle.rules.specs.Run.{fail, unrefused}
-use Rattle.rules.specs.Bytes.{ascii, isFolder}
+use Rattle.rules.specs.Bytes.{ascii, isPath, isFolder}
 use Rattle.rules.specs.Bundle.{Entry, bundleOf}
 use Rattle.rules.specs.Calls.{limit, zeros, padded, Holds, resolveResult, resolveOf, kindAnswer, Kind, resolveStringResult, resolveStringOf, outputAnswer, Output, findFileOf, foundAnswer, Found, resolveIncludesResult, resolveIncludesOf, preprocessTypstResult, preprocessTypstOf, expandedAnswer, Expanded, parseDefinitionsResult, parseDefinitionsOf, definedAnswer, Defined, passResult, passOf, passedAnswer, Passed, closedOf}
 use Rattle.rules.specs.Files.{View, view, fetch}
@@ -22,11 +22,11 @@ use Rattle.rules.specs.Sheet.{Records, sheetLength, sheetOf}
 use Rattle.rules.specs.Expansion.{expansionStep}
 use Rattle.rules.specs.Manual.{built, shown, manual, manualOf}
 use Rattle.rules.specs.Parts.{Setting, pass, isClosed, sheetLeft}
-use Rattle.rules.specs.Laws.Calls.{refused-form, number-form, parseDefinitions-holds, parseDefinitions-work, parseDefinitions-sheet, resolve-numbered, resolveString-numbered, resolveIncludes-numbered, preprocessTypst-numbered, parseDefinitions-numbered, resolveString-holds, resolveIncludes-holds, preprocessTypst-holds, pass-holds, pass-middle, pass-closed, find-refused, pass-sheet}
+use Rattle.rules.specs.Laws.Calls.{refused-form, number-form, parseDefinitions-holds, parseDefinitions-work, parseDefinitions-sheet, resolve-numbered, resolveString-numbered, resolveIncludes-numbered, preprocessTypst-numbered, parseDefinitions-numbered, resolveString-holds, resolveIncludes-holds, preprocessTypst-holds, preprocessTypst-sheet, pass-holds, pass-middle, pass-closed, find-refused, find-known, pass-sheet}
 use Rattle.rules.specs.Laws.Found.{found-there, found-inside}
 use Rattle.rules.specs.Laws.Manual.{manual-holds}
 use Rattle.rules.specs.Laws.Parts.{result-numbered}
-use Rattle.rules.specs.Laws.Order.{order}
+use Rattle.rules.specs.Laws.Order.{resolve-order, resolveString-order, findFile-order, resolveIncludes-order, preprocessTypst-order, parseDefinitions-order, pass-order}
 use Rattle.rules.specs.Laws.Once.{refused-alone, expansion-once}
 
 -- CLOSED. The answer says closed exactly when the pass is accepted and the text is closed.
@@ -91,6 +91,10 @@ parse-definitions-written bundle path l w = (parseDefinitions-holds bundle path 
 pub pass-leaves : (k : Setting) (sheet text : List ℕ) → let r = pass k sheet text in r .number ≡ 0 → (s : Records) × (sheetOf (sheetLeft r) ≡ some s) × (length (sheetLeft r) ≤ limit (k .leftLen))
 pass-leaves k sheet text h = let s = pass-sheet k sheet text h in (s .records, s .keeps-layout, s .fits)
 
+pub preprocess-typst-leaves : (bundle text sheet : List ℕ) (n l : ℕ) → let r = preprocessTypstOf bundle text sheet n l in
+    r .number ≡ 0 → (s : Records) × (sheetOf (take (r .sheetLen) (r .left)) ≡ some s) × (length (take (r .sheetLen) (r .left)) ≤ limit l)
+preprocess-typst-leaves bundle text sheet n l h = let s = preprocessTypst-sheet bundle text sheet n l h in (s .records, s .keeps-layout, s .fits)
+
 pub parse-definitions-leaves : (bundle path : List ℕ) (l w : ℕ) → let r = parseDefinitionsOf bundle path l w in
     r .number ≡ 0 → (s : Records) × (sheetOf (take (r .sheetLen) (r .left)) ≡ some s) × (length (take (r .sheetLen) (r .left)) ≤ limit l)
 parse-definitions-leaves bundle path l w h = let s = parseDefinitions-sheet bundle path l w h in (s .records, s .keeps-layout, s .fits)
@@ -106,6 +110,7 @@ pub numbers :
     × ((bundle text sheet : List ℕ) (n l : ℕ) → known (preprocessTypstOf bundle text sheet n l .number) ≡ true)
     × ((bundle path : List ℕ) (l w : ℕ) → known (parseDefinitionsOf bundle path l w .number) ≡ true)
     × ((k : Setting) (sheet text : List ℕ) → known (pass k sheet text .number) ≡ true)
+    × ((bundle path : List ℕ) → known (findFileOf bundle path .number) ≡ true)
 unfolding known resolveOf kindAnswer resolveStringOf outputAnswer resolveIncludesOf preprocessTypstOf expandedAnswer parseDefinitionsOf definedAnswer pass passOf passedAnswer
 numbers = (
   λ s p. number-form kindAnswer (λ r. r .number) (λ k. refl) (λ a. refl) (resolveResult s p) (resolve-numbered s p),
@@ -115,20 +120,48 @@ numbers = (
   λ b p l w. number-form (definedAnswer l w) (λ r. r .number) (λ k. refl) (λ a. refl) (parseDefinitionsResult b p l w) (parseDefinitions-numbered b p l w),
   λ k s t. number-form (passedAnswer (k .middleLen) (k .outLen) (k .leftLen) (closedOf (k .bundle) (k .folder) t s)) (λ r. r .number) (λ n. refl) (λ a. refl)
       (passResult (k .bundle) (k .folder) t s (k .middleLen) (k .outLen) (k .leftLen)) (result-numbered k s t),
+  find-known,
 )
 
--- ARGUMENTS FIRST: 2, 3, 4, 6, then 9 for the sheet given, the first that applies.
-pub arguments-first : (k : Setting) (sheet text : List ℕ) →
-    (bundleOf (k .bundle) ≡ none → pass k sheet text .number ≡ 2)
-    × ((es : List Entry) → bundleOf (k .bundle) ≡ some es →
-    (sheetOf sheet ≡ none → pass k sheet text .number ≡ 3)
-    × ((s : Records) → sheetOf sheet ≡ some s →
-    (isFolder (k .folder) ≡ false → pass k sheet text .number ≡ 4)
-    × (isFolder (k .folder) ≡ true → all ascii text ≡ false → pass k sheet text .number ≡ 6)
-    × (isFolder (k .folder) ≡ true → all ascii text ≡ true → leb (sheetLength s) (limit (k .leftLen)) ≡ false → pass k sheet text .number ≡ 9)))
-arguments-first k sheet text =
-    let o = order k sheet text in
-    (o .bundle-first, λ es b. (o .then-sheet es b, λ s q. (o .then-folder es s b q, o .then-text es s b q, o .then-limit es s b q)))
+-- ARGUMENTS FIRST: 1, 2, 3, 4, 6, then 9 for the sheet given. A call whose arguments break a rule has the number of the first that is broken, in the
+-- order listed. For the definitions call 5 and 6 of its own file follow, as `find_file` finds it.
+abbrev pub First : ℕ → List (ℕ × Bool) → Type 0
+First number rules = let k = firstBroken rules in k ≢ 0 → number ≡ k
+
+pub resolve-first : (sheet path : List ℕ) → First (resolveOf sheet path .number)
+    ((3, isSome (sheetOf sheet)) ∷ (6, all ascii path) ∷ [])
+unfolding resolveOf kindAnswer
+resolve-first sheet path h = rw (resolve-order sheet path .first h)
+
+pub resolve-string-first : (sheet path : List ℕ) (n : ℕ) → First (resolveStringOf sheet path n .number)
+    ((3, isSome (sheetOf sheet)) ∷ (6, all ascii path) ∷ [])
+unfolding resolveStringOf outputAnswer
+resolve-string-first sheet path n h = rw (resolveString-order sheet path n .first h)
+
+pub find-file-first : (bundle path : List ℕ) → First (findFileOf bundle path .number)
+    ((2, isSome (bundleOf bundle)) ∷ (4, isPath path) ∷ [])
+unfolding findFileOf foundAnswer
+find-file-first bundle path h = rw (findFile-order bundle path .first h)
+
+pub resolve-includes-first : (bundle folder text : List ℕ) (n : ℕ) → First (resolveIncludesOf bundle folder text n .number)
+    ((2, isSome (bundleOf bundle)) ∷ (4, isFolder folder) ∷ (6, all ascii text) ∷ [])
+unfolding resolveIncludesOf outputAnswer
+resolve-includes-first bundle folder text n h = rw (resolveIncludes-order bundle folder text n .first h)
+
+pub preprocess-typst-first : (bundle text sheet : List ℕ) (n l : ℕ) → First (preprocessTypstOf bundle text sheet n l .number)
+    ((2, isSome (bundleOf bundle)) ∷ (3, isSome (sheetOf sheet)) ∷ (6, all ascii text) ∷ (9, leb (length sheet) (limit l)) ∷ [])
+unfolding preprocessTypstOf expandedAnswer
+preprocess-typst-first bundle text sheet n l h = rw (preprocessTypst-order bundle text sheet n l .first h)
+
+pub parse-definitions-first : (bundle path : List ℕ) (l w : ℕ) → let f = findFileOf bundle path in First (parseDefinitionsOf bundle path l w .number)
+    ((1, leb (16 * limit l) w) ∷ (2, isSome (bundleOf bundle)) ∷ (4, isPath path) ∷ (5, eqb (f .kind) 2) ∷ (6, all ascii (take (f .len) (drop (f .start) bundle))) ∷ [])
+unfolding parseDefinitionsOf definedAnswer
+parse-definitions-first bundle path l w h = rw (parseDefinitions-order bundle path l w .first h)
+
+pub pass-first : (k : Setting) (sheet text : List ℕ) → First (pass k sheet text .number)
+    ((2, isSome (bundleOf (k .bundle))) ∷ (3, isSome (sheetOf sheet)) ∷ (4, isFolder (k .folder)) ∷ (6, all ascii text) ∷ (9, leb (length sheet) (limit (k .leftLen))) ∷ [])
+unfolding pass passOf passedAnswer
+pass-first k sheet text h = rw (pass-order k sheet text .first h)
 
 -- READ WHOLE: a step of the expansion that is refused is nothing but the refusal; no byte of it comes first.
 pub read-whole : (v : View) (s : Records) (text : List ℕ) → unrefused (expansionStep v s text .0 .emit) ≡ false → (k : ℕ) × (expansionStep v s text .0 .emit ≡ fail k)

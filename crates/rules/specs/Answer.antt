@@ -1,5 +1,6 @@
 -- Refusals and acceptance (01, sections 8 and 11: the Rust's `Result` becomes a number in the answer).
 use mathlib.Core.Bool.{Bool, true, false, _&&_}
+use mathlib.Core.List.{List, [], _∷_}
 use mathlib.Core.Option.{Option, none, some}
 use Prim.Native.Nat.{ℕ}
 use lib.Dec.{leb}
@@ -30,7 +31,16 @@ unfoldable pub check : ℕ → Bool → Answer (Unit {0})
 check k true = accepted tt
 check k false = refused k
 
--- Refusal k where there is nothing.
+-- Is there anything; refusal k where there is nothing.
+unfoldable pub isSome : {A : Type 0} → Option A → Bool
+isSome none = false
+isSome (some a) = true
+
 unfoldable pub orRefuse : {A : Type 0} → ℕ → Option A → Answer A
 orRefuse k none = refused k
 orRefuse k (some a) = accepted a
+
+-- Rules in order, each with its number and whether it is kept: the number of the first that is broken; 0 where none is.
+unfoldable pub firstBroken : List (ℕ × Bool) → ℕ
+firstBroken [] = 0
+firstBroken (r ∷ rs) = elim (r .1) [ true ↦ firstBroken rs | false ↦ r .0 ]

@@ -5,6 +5,7 @@ use mathlib.Core.Bool.{Bool, true, false, _&&_, _||_, true≢false, false≢true
 use mathlib.Core.Option.{Option, none, some}
 use Prim.Native.Nat.{ℕ, _≤_, _<_}
 use lib.Dec.{T, leb, ltb, eqb, leb→le, le→leb, ltb→lt, lt→ltb, nltb→le, eqb→eq, eqb-refl}
+unfoldable pub use Rattle.rules.specs.Answer.{isSome}
 
 -- The left side of a true conjunction is true.
 pub and-l : (a b : Bool) → (a && b) ≡ true → a ≡ true
@@ -105,11 +106,6 @@ pub false-eqb : (a b : ℕ) → eqb a b ≡ false → a ≢ b
 false-eqb a b h e = true≢false (sym (eqb-true a b e) ∙ h)
 
 module _ {A : Type 0} where
-  -- Is there anything.
-  unfoldable pub isSome : Option A → Bool
-  isSome none = false
-  isSome (some a) = true
-
   -- There is: what it is.
   pub true-some : (x : Option A) → isSome x ≡ true → (a : A) × (x ≡ some a)
   unfolding isSome

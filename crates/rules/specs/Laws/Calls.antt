@@ -29,6 +29,7 @@ use Rattle.rules.specs.Laws.Sheet.{sheet-good, Kept}
 use Rattle.rules.specs.Laws.Numbers.{numbered, numbered-accepted, numbered-check, numbered-orRefuse, numbered-bind, limited-numbered, numbered-fetch, zero-accepted}
 use Rattle.rules.specs.Laws.Refusals.{includes-numbered, expansion-numbered}
 use Rattle.rules.specs.Laws.Definitions.{definitions-numbered, definitions-kept}
+use Rattle.rules.specs.Laws.Found.{entry-number}
 use Rattle.rules.specs.Laws.Parts.{kept-sheet, expanded-kept, Ran, ran-inv, ran-kept, Answers, answers, result-numbered}
 
 -- FORMS. `form` makes a call's answer of its result: a number other than 0 is a refusal, and 0 is an acceptance.
@@ -86,12 +87,6 @@ unfolding foundAnswer
 found-refused (refused k) z h = refl
 found-refused (accepted f) z h = absurd (h (z f refl))
 
-entry-number : (e : Option Entry) (f : Bool) → foundEntry e f .number ≡ 0
-unfolding foundEntry
-entry-number (some e) f = refl
-entry-number none true = refl
-entry-number none false = refl
-
 find-number : (bundle path : List ℕ) (f : Found) → findFileResult bundle path ≡ accepted f → f .number ≡ 0
 unfolding findFileResult
 find-number bundle path f q =
@@ -102,6 +97,15 @@ find-number bundle path f q =
 pub find-refused : (bundle path : List ℕ) → let r = findFileOf bundle path in r .number ≢ 0 → r ≡ record { number = r .number; kind = 0; start = 0; len = 0 }
 unfolding findFileOf
 find-refused bundle path h = found-refused (findFileResult bundle path) (find-number bundle path) h
+
+found-known : (x : Answer Found) → numbered x ≡ true → ((f : Found) → x ≡ accepted f → f .number ≡ 0) → (eqb (foundAnswer x .number) 0 || isRefusal (foundAnswer x .number)) ≡ true
+unfolding foundAnswer numbered
+found-known (refused k) n z = or-i-r (eqb k 0) (isRefusal k) n
+found-known (accepted f) n z = rw (z f refl) refl
+
+pub find-known : (bundle path : List ℕ) → let k = findFileOf bundle path .number in (eqb k 0 || isRefusal k) ≡ true
+unfolding findFileOf findFileResult isRefusal
+find-known bundle path = found-known (findFileResult bundle path) (search (numbered-bind, numbered-check, numbered-orRefuse, numbered-accepted) depth 12) (find-number bundle path)
 
 -- TEXT.
 resolveString-fits : (sheet path : List ℕ) (n : ℕ) (o : List ℕ) → resolveStringResult sheet path n ≡ accepted o → length o ≤ n
@@ -230,6 +234,15 @@ unfolding preprocessTypstResult expanded isRefusal
 preprocessTypst-numbered bundle text sheet n l =
     numbered-bind (orRefuse 2 (bundleOf bundle)) _ (numbered-orRefuse _ _ refl) (λ es. numbered-bind (orRefuse 3 (sheetOf sheet)) _ (numbered-orRefuse _ _ refl) (λ s.
     numbered-check _ (all ascii text) _ refl (numbered-check _ (leb (sheetLength s) (limit l)) _ refl (limited-numbered sheetLength (limit l) 11 refl (expansion (view es) s text) n (expansion-numbered (view es) s text)))))
+
+-- The sheet that an accepted expansion leaves.
+pub preprocessTypst-sheet : (bundle text sheet : List ℕ) (n l : ℕ) → let r = preprocessTypstOf bundle text sheet n l in r .number ≡ 0 → Sheet (limit l) (take (r .sheetLen) (r .left))
+unfolding preprocessTypstOf expandedAnswer padded sheetLength
+preprocessTypst-sheet bundle text sheet n l h =
+    let y = accepted-form (expandedAnswer n l) (λ r. r .number) (λ k. refl) (λ x. refl) (preprocessTypstResult bundle text sheet n l) (preprocessTypst-numbered bundle text sheet n l) h in
+    let s = y .0 .1 in
+    let p = preprocessTypst-ready bundle text sheet n l (y .0) (y .1) .sheet in
+    rw (y .1, take-append-seam (encode s) (zeros (l - length (encode s)))) (record { records = s; keeps-layout = kept-sheet l s p; fits = true-leb _ _ (p .small) })
 
 -- THE PASS.
 module _ (k : Setting) where

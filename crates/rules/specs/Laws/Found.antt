@@ -16,7 +16,7 @@ use Rattle.rules.specs.Layout.{Parser, bind, pure, require, bit, remaini
 use Rattle.rules.specs.Layout
 use Rattle.rules.specs.Bundle.{Entry, entry, bundleOf, bundleParser}
 use Rattle.rules.specs.Files.{view, entryAt, isFolderOf, fileOf, contentOf, fetch}
-use Rattle.rules.specs.Laws.Bool.{not-true, true-eqb, eqb-true}
+use Rattle.rules.specs.Laws.Bool.{not-true, true-eqb, eqb-true, false-eqb}
 use Rattle.rules.specs.Calls.{Found, foundEntry, foundAnswer, findFileResult, findFileOf}
 
 module _ {A B : Type 0} where
@@ -199,6 +199,21 @@ found-content b p = at (bundleOf b) refl (isPath p)
 pub found-there : (b p : List ℕ) (es : List Entry) → bundleOf b ≡ some es → let f = findFileOf b p in f .number ≡ 0 → f .kind ≡ 2 → fetch (view es) p ≡ accepted (take (f .len) (drop (f .start) b))
 unfolding orRefuse _>>=_
 found-there b p es h e k = sym (ap (λ x. orRefuse 2 x >>= λ es. fetch (view es) p) h) ∙ found-content b p ∙ content-there b (findFileOf b p) e k
+
+pub found-absent : (b p : List ℕ) (es : List Entry) → bundleOf b ≡ some es → let f = findFileOf b p in f .number ≡ 0 → eqb (f .kind) 2 ≡ false → fetch (view es) p ≡ refused 5
+unfolding orRefuse _>>=_
+found-absent b p es h e k = sym (ap (λ x. orRefuse 2 x >>= λ es. fetch (view es) p) h) ∙ found-content b p ∙ content-absent b (findFileOf b p) e (false-eqb _ 2 k)
+
+-- An answer of `find_file` that is not refused has the number 0.
+pub entry-number : (e : Option Entry) (f : Bool) → foundEntry e f .number ≡ 0
+unfolding foundEntry
+entry-number (some e) f = refl
+entry-number none true = refl
+entry-number none false = refl
+
+pub found-number : (b p : List ℕ) (es : List Entry) → bundleOf b ≡ some es → isPath p ≡ true → findFileOf b p .number ≡ 0
+unfolding findFileOf findFileResult foundAnswer orRefuse check _>>=_ _>>_
+found-number b p es h q = rw (h, q) (entry-number (entryAt es p) (isFolderOf es p))
 
 -- And it lies in the bundle.
 pub found-inside : (b p : List ℕ) → let f = findFileOf b p in f .start + f .len ≤ length b

@@ -20,13 +20,14 @@ use Rattle.rules.specs.Expansion.{letValue, expansion}
 use Rattle.rules.specs.Pass.{middleText, expanded, passed, closed}
 use Rattle.rules.specs.Calls.{limit, zeros, padded, Passed, passedAnswer, closedIn, closedOf, passResult, passOf}
 use Rattle.rules.specs.Parts.{outputOf, sheetLeft, Setting, pass, isClosed, passes, closedParts, joined, allAccepted, outputs, lastSheet}
-use Rattle.rules.specs.Laws.Bool.{and-l, and-r, and-i, true-leb}
+use Rattle.rules.specs.Laws.Bool.{and-l, and-r, and-i, true-leb, true-some}
 use Rattle.rules.specs.Laws.Answer.{check-inv, check-true, bind-inv, bind-accepted, orRefuse-inv}
 use Rattle.rules.specs.Laws.Limit.{limited-text}
 use Rattle.rules.specs.Laws.Texts.{all-left, all-right}
 use Rattle.rules.specs.Laws.Middle.{middle-plain}
 use Rattle.rules.specs.Laws.Keep.{expansion-keeps}
-use Rattle.rules.specs.Laws.Sheet.{set-good, resolve-good, sheet-encode, sheet-good, Kept}
+use Rattle.rules.specs.Laws.Sheet.{set-good, resolve-good, sheet-encode, sheet-good, sheet-size, Kept}
+use Rattle.rules.specs.Laws.Order.{pass-order, none-broken, first-kept}
 use Rattle.rules.specs.Laws.Pass.{Passes, passed-split}
 use Rattle.rules.specs.Laws.Numbers.{numbered, numbered-check, numbered-orRefuse, numbered-bind, limited-numbered, zero-accepted}
 use Rattle.rules.specs.Laws.Refusals.{includes-numbered, expansion-numbered}
@@ -77,28 +78,35 @@ module _ (k : Setting) where
     pub small : leb (sheetLength records) (limit (k .leftLen)) ≡ true
     pub ran : passed (view entries) (limit (k .leftLen)) (k .middleLen) (k .outLen) (k .folder) records t ≡ accepted y
 
+  -- With good arguments the result is that of the pass.
+  good-result : (sheet t : List ℕ) (es : List Entry) (s : Records) → bundleOf (k .bundle) ≡ some es → sheetOf sheet ≡ some s → isFolder (k .folder) ≡ true → all ascii t ≡ true → leb (sheetLength s) (limit (k .leftLen)) ≡ true →
+      result sheet t ≡ passed (view es) (limit (k .leftLen)) (k .middleLen) (k .outLen) (k .folder) s t
+  unfolding passResult orRefuse check _>>=_ _>>_
+  good-result sheet t es s b p f a l = rw (b, p, f, a, l)
+
   pub ran-inv : (sheet t : List ℕ) (y : List ℕ × Records) → result sheet t ≡ accepted y → Ran sheet t y
-  unfolding passResult
   ran-inv sheet t y q =
-      let i₁ = bind-inv (orRefuse 2 (bundleOf (k .bundle))) _ q in
-      let i₂ = bind-inv (orRefuse 3 (sheetOf sheet)) _ (i₁ .2) in
-      let i₃ = check-inv 4 (isFolder (k .folder)) _ (i₂ .2) in
-      let i₄ = check-inv 6 (all ascii t) _ (i₃ .1) in
-      let i₅ = check-inv 9 (leb (sheetLength (i₂ .0)) (limit (k .leftLen))) _ (i₄ .1) in
+      let i₁ = first-kept _ _ _ (none-broken (pass-order k sheet t) q) in
+      let i₂ = first-kept _ _ _ (i₁ .1) in
+      let i₃ = first-kept _ _ _ (i₂ .1) in
+      let i₄ = first-kept _ _ _ (i₃ .1) in
+      let i₅ = first-kept _ _ _ (i₄ .1) in
+      let b = true-some (bundleOf (k .bundle)) (i₁ .0) in
+      let s = true-some (sheetOf sheet) (i₂ .0) in
+      let l : leb (sheetLength (s .0)) (limit (k .leftLen)) ≡ true = rw (sheet-size sheet (s .0) (s .1)) (i₅ .0) in
       record {
-        entries = i₁ .0;
-        records = i₂ .0;
-        bundle-is = orRefuse-inv 2 (bundleOf (k .bundle)) (i₁ .1);
-        sheet-is = orRefuse-inv 3 (sheetOf sheet) (i₂ .1);
+        entries = b .0;
+        records = s .0;
+        bundle-is = b .1;
+        sheet-is = s .1;
         folder-good = i₃ .0;
         text-good = i₄ .0;
-        small = i₅ .0;
-        ran = i₅ .1;
+        small = l;
+        ran = sym (good-result sheet t (b .0) (s .0) (b .1) (s .1) (i₃ .0) (i₄ .0) l) ∙ q;
       }
 
   pub ran-intro : (sheet t : List ℕ) (y : List ℕ × Records) → Ran sheet t y → result sheet t ≡ accepted y
-  unfolding passResult orRefuse check _>>=_ _>>_
-  ran-intro sheet t y r = rw (r .bundle-is, r .sheet-is, r .folder-good, r .text-good, r .small) (r .ran)
+  ran-intro sheet t y r = good-result sheet t (r .entries) (r .records) (r .bundle-is) (r .sheet-is) (r .folder-good) (r .text-good) (r .small) ∙ r .ran
 
   pub ran-kept : (sheet t : List ℕ) (y : List ℕ × Records) → Ran sheet t y → Kept (limit (k .leftLen)) (y .1)
   ran-kept sheet t y r =
@@ -192,9 +200,4 @@ module _ (k : Setting) where
   pub result-numbered : (sheet t : List ℕ) → numbered (result sheet t) ≡ true
   unfolding passResult passed middleText expanded isRefusal
   result-numbered sheet t =
-      let L = limit (k .leftLen) in
-      numbered-bind (orRefuse 2 (bundleOf (k .bundle))) _ (numbered-orRefuse 2 _ refl) (λ es.
-      numbered-bind (orRefuse 3 (sheetOf sheet)) _ (numbered-orRefuse 3 _ refl) (λ s.
-      numbered-check 4 (isFolder (k .folder)) _ refl (numbered-check 6 (all ascii t) _ refl (numbered-check 9 (leb (sheetLength s) L) _ refl
-      (numbered-bind (middleText (view es) 10 (k .middleLen) (k .folder) t) _ (limited-numbered (λ h. 0) 0 10 refl (includes (view es) (k .folder) t) (k .middleLen) (includes-numbered (view es) (k .folder) t))
-      (λ x. limited-numbered sheetLength L 11 refl (expansion (view es) s (x .0)) (k .outLen) (expansion-numbered (view es) s (x .0))))))))
+      search (numbered-bind, numbered-check, numbered-orRefuse, limited-numbered, includes-numbered, expansion-numbered) depth 20

@@ -530,6 +530,87 @@ sheet-good b r h =
 pub sheet-canonical : (b : List ℕ) (r : Records) → all isByte b ≡ true → sheetOf b ≡ some r → encode r ≡ b
 sheet-canonical b r a h = encode-decode b r a (sheet-good b r h .decoded)
 
+-- A sheet is as long as the bytes of its records. This is so whatever numbers stand for its bytes, where `sheet-canonical` asks for bytes.
+word16-size : (b : List ℕ) (y : ℕ × List ℕ) → word16 b ≡ some y → length b ≡ 2 + length (y .1)
+unfolding word16 byte pure bind _>>=_
+word16-size [] y h = cc
+word16-size (x ∷ []) y h = cc
+word16-size (x ∷ z ∷ b) y h = let e : (x + 256 * z, b) ≡ y = cc in rw (← e) (omega arith)
+
+field-size : (b : List ℕ) (y : List ℕ × List ℕ) → field word16 b ≡ some y → length b ≡ length (fieldBytes (y .0)) + length (y .1)
+unfolding field pure _>>=_ _>>_ word16Bytes
+field-size b y h =
+    let i = bind-some (word16 b) _ h in
+    let j = bind-some (takeBytes (i .0 .0) (i .0 .1)) _ (i .2) in
+    let f = field-full (j .0 .0) (j .0 .1) y (j .2) in
+    let t = take-written (i .0 .0) (i .0 .1) (j .0) (j .1) in
+    rw (← (f .0)) (rw (f .1) (omega (arith, word16-size b (i .0) (i .1), simp length-append at (ap length (t .1)))))
+
+name-size : (c : Bool) (b : List ℕ) (y : List ℕ × List ℕ) → fieldIf c word16 b ≡ some y → length b ≡ length (fieldBytes (y .0)) + length (y .1)
+unfolding fieldIf pure fieldBytes
+name-size true b y h = field-size b y h
+name-size false b y h = let e : ([], b) ≡ y = cc in rw (← e) (omega arith)
+
+module _ (records : ℕ → Parser Records) (size : (n : ℕ) (b : List ℕ) (y : Records × List ℕ) → records n b ≡ some y → length b ≡ length (encode (y .0)) + length (y .1)) where
+  value-size : (k : ℕ) (b : List ℕ) (y : Value × List ℕ) (c₀ c₁ c₂ c₄ : Bool) → eqb k 0 ≡ c₀ → eqb k 1 ≡ c₁ → eqb k 2 ≡ c₂ → eqb k 4 ≡ c₄ → value records k b ≡ some y → length b ≡ length (valueBytes (y .0)) + length (y .1)
+  unfolding value valueBytes fieldBytes word16Bytes pure broken _>>=_
+  value-size k b y true c₁ c₂ c₄ q₀ q₁ q₂ q₄ h =
+      let g : some (text [], b) ≡ some y = rw (q₀, value) at h in
+      let e : (text [], b) ≡ y = cc in
+      rw (← e) (omega arith)
+  value-size k b y false true c₂ c₄ q₀ q₁ q₂ q₄ h =
+      let i = bind-some (field word16 b) (λ r. some (text (r .0), r .1)) (rw (q₀, q₁, value) at h) in
+      let e : (text (i .0 .0), i .0 .1) ≡ y = cc (i .2) in
+      rw (← e) (field-size b (i .0) (i .1))
+  value-size k b y false false true c₄ q₀ q₁ q₂ q₄ h =
+      let i = bind-some (word16 b) (λ r. bind (records (r .0) (r .1)) (λ s. some (dictionary (s .0), s .1))) (rw (q₀, q₁, q₂, value) at h) in
+      let j = bind-some (records (i .0 .0) (i .0 .1)) (λ s. some (dictionary (s .0), s .1)) (i .2) in
+      let e : (dictionary (j .0 .0), j .0 .1) ≡ y = cc (j .2) in
+      rw (← e) (omega (arith, word16-size b (i .0) (i .1), size (i .0 .0) (i .0 .1) (j .0) (j .1)))
+  value-size k b y false false false true q₀ q₁ q₂ q₄ h =
+      let g : some (nothing, b) ≡ some y = rw (q₀, q₁, q₂, q₄, value) at h in
+      let e : (nothing, b) ≡ y = cc in
+      rw (← e) (omega arith)
+  value-size k b y false false false false q₀ q₁ q₂ q₄ h = absurd (Option·none-ne-some y (rw (q₀, q₁, q₂, q₄, value) at h))
+
+  record-size : (b : List ℕ) (y : (List ℕ × Value) × List ℕ) → oneRecord records b ≡ some y → length b ≡ suc (length (fieldBytes (y .0 .0)) + (length (valueBytes (y .0 .1)) + length (y .1)))
+  unfolding oneRecord byte pure bind _>>=_
+  record-size [] y h = absurd (Option·none-ne-some y h)
+  record-size (m ∷ b) y h =
+      let i = bind-some (fieldIf (bit 0 m) word16 b) (λ r. bind (value records (m / 2) (r .1)) (λ s. some ((r .0, s .0), s .1))) h in
+      let j = bind-some (value records (m / 2) (i .0 .1)) (λ s. some ((i .0 .0, s .0), s .1)) (i .2) in
+      let e : ((i .0 .0, j .0 .0), j .0 .1) ≡ y = cc (j .2) in
+      rw (← e) (omega (arith, name-size (bit 0 m) b (i .0) (i .1), value-size (m / 2) (i .0 .1) (j .0) (eqb (m / 2) 0) (eqb (m / 2) 1) (eqb (m / 2) 2) (eqb (m / 2) 4) refl refl refl refl (j .1)))
+
+  records-size : (n : ℕ) (b : List ℕ) (y : Records × List ℕ) → someRecords records n b ≡ some y → length b ≡ length (encode (y .0)) + length (y .1)
+  unfolding someRecords encode pure _>>=_
+  records-size zero b y h = let e : (end, b) ≡ y = cc in rw (← e) (omega arith)
+  records-size (suc n) b y h =
+      let i = bind-some (oneRecord records b) (λ x. bind (someRecords records n (x .1)) (λ r. some (rec (x .0 .0) (x .0 .1) (r .0), r .1))) h in
+      let j = bind-some (someRecords records n (i .0 .1)) (λ r. some (rec (i .0 .0 .0) (i .0 .0 .1) (r .0), r .1)) (i .2) in
+      let e : (rec (i .0 .0 .0) (i .0 .0 .1) (j .0 .0), j .0 .1) ≡ y = cc (j .2) in
+      rw (← e) (simp length-append (omega (arith, record-size b (i .0) (i .1), records-size n (i .0 .1) (j .0) (j .1))))
+
+  all-size : (k : ℕ) (b : List ℕ) (r : Records) → allRecords records k b ≡ some r → length (encode r) ≡ length b
+  unfolding allRecords encode
+  all-size zero [] r h = let e : end ≡ r = cc in rw (← e)
+  all-size zero (x ∷ b) r h = cc
+  all-size (suc k) [] r h = let e : end ≡ r = cc in rw (← e)
+  all-size (suc k) (x ∷ b) r h =
+      let i = bind-some (oneRecord records (x ∷ b)) (λ y. bind (allRecords records k (y .1)) (λ s. some (rec (y .0 .0) (y .0 .1) s))) h in
+      let j = bind-some (allRecords records k (i .0 .1)) (λ s. some (rec (i .0 .0 .0) (i .0 .0 .1) s)) (i .2) in
+      let e : rec (i .0 .0 .0) (i .0 .0 .1) (j .0) ≡ r = cc (j .2) in
+      rw (← e) (simp length-append (omega (arith, record-size (x ∷ b) (i .0) (i .1), all-size k (i .0 .1) (j .0) (j .1))))
+
+levels-size : (l n : ℕ) (b : List ℕ) (y : Records × List ℕ) → levels l n b ≡ some y → length b ≡ length (encode (y .0)) + length (y .1)
+unfolding levels broken
+levels-size zero n b y h = absurd (Option·none-ne-some y h)
+levels-size (suc l) n b y h = records-size (levels l) (levels-size l) n b y h
+
+pub sheet-size : (b : List ℕ) (r : Records) → sheetOf b ≡ some r → sheetLength r ≡ length b
+unfolding decode sheetLength
+sheet-size b r h = all-size (levels 6) (levels-size 6) (length b) b r (sheet-good b r h .decoded)
+
 -- Good records of at most L bytes.
 pub record Kept (L : ℕ) (s : Records) : Type 0 where
   pub good : goodRecords s word 6 ≡ true
