@@ -1,6 +1,6 @@
 -- What every answer of a public call says (01, sections 6 and 8).
 use mathlib.Core.Path.{_≡_, refl, sym, ap, _∙_}
-use mathlib.Core.Logic.{_≢_, _↔_}
+use mathlib.Core.Logic.{_≢_, _↔_, _⊎_}
 use mathlib.Core.List.{List, [], _∷_}
 use mathlib.Core.Bool.{Bool, true, false, _||_}
 use mathlib.Core.Option.{some}
@@ -12,13 +12,14 @@ use lib.ListN.{length, take, drop}
 use lib.Seq.{take-all, length-take-le}
 use borrow.Author.Tests.{lt-leb}
 use Rattle.rules.specs.Answer.{refused, accepted, isRefusal, _>>_, check, isSome, firstBroken}
-use Rattle.rules.specs.Reader.{all}
-use Rattle.rules.specs.Run.{fail, unrefused}
-use Rattle.rules.specs.Bytes.{ascii, isPath, isFolder}
+use Rattle.rules.specs.Reader.{bytes, all}
+use Rattle.rules.specs.Run.{ok, put, fail, andThen, unrefused}
+use Rattle.rules.specs.Bytes.{ascii, isPath, isFolder, parent}
 use Rattle.rules.specs.Bundle.{Entry, bundleOf}
 use Rattle.rules.specs.Calls.{limit, zeros, padded, Holds, resolveResult, resolveOf, kindAnswer, Kind, resolveStringResult, resolveStringOf, outputAnswer, Output, findFileOf, foundAnswer, Found, resolveIncludesResult, resolveIncludesOf, preprocessTypstResult, preprocessTypstOf, expandedAnswer, Expanded, parseDefinitionsResult, parseDefinitionsOf, definedAnswer, Defined, passResult, passOf, passedAnswer, Passed, closedOf}
-use Rattle.rules.specs.Files.{View, view, fetch}
+use Rattle.rules.specs.Files.{View, view, fetch, opened}
 use Rattle.rules.specs.Sheet.{Records, sheetLength, sheetOf}
+use Rattle.rules.specs.Includes.{includeStep, insideFile}
 use Rattle.rules.specs.Expansion.{expansionStep}
 use Rattle.rules.specs.Manual.{built, shown, manual, manualOf}
 use Rattle.rules.specs.Parts.{Setting, pass, isClosed, sheetLeft}
@@ -27,7 +28,7 @@ use Rattle.rules.specs.Laws.Found.{found-there, found-inside}
 use Rattle.rules.specs.Laws.Manual.{manual-holds}
 use Rattle.rules.specs.Laws.Parts.{result-numbered}
 use Rattle.rules.specs.Laws.Order.{resolve-order, resolveString-order, findFile-order, resolveIncludes-order, preprocessTypst-order, parseDefinitions-order, pass-order}
-use Rattle.rules.specs.Laws.Once.{refused-alone, expansion-once}
+use Rattle.rules.specs.Laws.Once.{refused-alone, expansion-once, include-step-whole}
 
 -- CLOSED. The answer says closed exactly when the pass is accepted and the text is closed.
 pub closed-exactly : (k : Setting) (sheet text : List ℕ) → (pass k sheet text .closed ≡ true) ↔ ((pass k sheet text .number ≡ 0) × (isClosed k sheet text ≡ true))
@@ -163,9 +164,17 @@ pub pass-first : (k : Setting) (sheet text : List ℕ) → First (pass k sheet t
 unfolding pass passOf passedAnswer
 pass-first k sheet text h = rw (pass-order k sheet text .first h)
 
--- READ WHOLE: a step of the expansion that is refused is nothing but the refusal; no byte of it comes first.
-pub read-whole : (v : View) (s : Records) (text : List ℕ) → unrefused (expansionStep v s text .0 .emit) ≡ false → (k : ℕ) × (expansionStep v s text .0 .emit ≡ fail k)
-read-whole v s text h = refused-alone (expansionStep v s text .0 .emit) (expansion-once v s text) h
+-- READ WHOLE: a call or include mark is read whole, its file opened, before its first byte is output.
+-- A refused step of the expansion is nothing but the refusal. So is one of the includes; or a file p was opened with the text c, a level being left,
+-- and the refusal is one inside it: the step is what that text comes to, then a newline. (Of its steps, with a level less, the same holds.)
+pub calls-read-whole : (v : View) (s : Records) (text : List ℕ) → let e = expansionStep v s text .0 .emit in
+    unrefused e ≡ false → (k : ℕ) × (e ≡ fail k)
+calls-read-whole v s text h = refused-alone (expansionStep v s text .0 .emit) (expansion-once v s text) h
+
+pub marks-read-whole : (v : View) (l : ℕ) (folder stretch text : List ℕ) → let e = includeStep v (insideFile v l) folder stretch text .0 .emit in
+    unrefused e ≡ false → ((k : ℕ) × (e ≡ fail k))
+    ⊎ ((p : List ℕ) × (c : List ℕ) × (opened v p ≡ accepted c) × (l ≢ 0) × (e ≡ andThen (insideFile v l (parent p) c) (put (bytes "\n") ok)))
+marks-read-whole v l folder stretch text h = include-step-whole v l folder stretch text h
 
 -- MANUAL. Its text fits the buffer, and zero stands behind it.
 pub manual-written : (input : List ℕ) → let r = manualOf input in Holds 32768 (r .len) (r .out)
