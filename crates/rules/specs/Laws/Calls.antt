@@ -202,9 +202,7 @@ parseDefinitions-work bundle path l w = defined-work l w (parseDefinitionsResult
 
 pub parseDefinitions-numbered : (bundle path : List ℕ) (l w : ℕ) → numbered (parseDefinitionsResult bundle path l w) ≡ true
 unfolding parseDefinitionsResult isRefusal
-parseDefinitions-numbered bundle path l w =
-    numbered-check _ (leb (16 * limit l) w) _ refl (numbered-bind (orRefuse 2 (bundleOf bundle)) _ (numbered-orRefuse _ _ refl) (λ es.
-    numbered-bind (fetch (view es) path) _ (numbered-fetch (view es) path) (λ c. definitions-numbered (limit l) (view es) (parent path) c)))
+parseDefinitions-numbered bundle path l w = search (numbered-bind, numbered-check, numbered-orRefuse, numbered-fetch, definitions-numbered) depth 20
 
 pub parseDefinitions-sheet : (bundle path : List ℕ) (l w : ℕ) → let r = parseDefinitionsOf bundle path l w in r .number ≡ 0 → Sheet (limit l) (take (r .sheetLen) (r .left))
 unfolding parseDefinitionsOf definedAnswer padded sheetLength
@@ -216,24 +214,19 @@ parseDefinitions-sheet bundle path l w h =
 -- NUMBERS of the other calls.
 pub resolve-numbered : (sheet path : List ℕ) → numbered (resolveResult sheet path) ≡ true
 unfolding resolveResult isRefusal
-resolve-numbered sheet path = numbered-bind (orRefuse 3 (sheetOf sheet)) _ (numbered-orRefuse _ _ refl) (λ s. numbered-check _ (all ascii path) _ refl (numbered-accepted _))
+resolve-numbered sheet path = search (numbered-bind, numbered-check, numbered-orRefuse, numbered-accepted) depth 12
 
 pub resolveString-numbered : (sheet path : List ℕ) (n : ℕ) → numbered (resolveStringResult sheet path n) ≡ true
 unfolding resolveStringResult isRefusal
-resolveString-numbered sheet path n =
-    numbered-bind (orRefuse 3 (sheetOf sheet)) _ (numbered-orRefuse _ _ refl) (λ s. numbered-check _ (all ascii path) _ refl (numbered-check _ (leb (length (resolveString s path)) n) _ refl (numbered-accepted _)))
+resolveString-numbered sheet path n = search (numbered-bind, numbered-check, numbered-orRefuse, numbered-accepted) depth 12
 
 pub resolveIncludes-numbered : (bundle folder text : List ℕ) (n : ℕ) → numbered (resolveIncludesResult bundle folder text n) ≡ true
 unfolding resolveIncludesResult middleText isRefusal
-resolveIncludes-numbered bundle folder text n =
-    numbered-bind (orRefuse 2 (bundleOf bundle)) _ (numbered-orRefuse _ _ refl) (λ es. numbered-check _ (isFolder folder) _ refl (numbered-check _ (all ascii text) _ refl
-    (numbered-bind (middleText (view es) 11 n folder text) _ (limited-numbered (λ h. 0) 0 11 refl (includes (view es) folder text) n (includes-numbered (view es) folder text)) (λ x. numbered-accepted _))))
+resolveIncludes-numbered bundle folder text n = search (numbered-bind, numbered-check, numbered-orRefuse, numbered-accepted, limited-numbered, includes-numbered) depth 20
 
 pub preprocessTypst-numbered : (bundle text sheet : List ℕ) (n l : ℕ) → numbered (preprocessTypstResult bundle text sheet n l) ≡ true
 unfolding preprocessTypstResult expanded isRefusal
-preprocessTypst-numbered bundle text sheet n l =
-    numbered-bind (orRefuse 2 (bundleOf bundle)) _ (numbered-orRefuse _ _ refl) (λ es. numbered-bind (orRefuse 3 (sheetOf sheet)) _ (numbered-orRefuse _ _ refl) (λ s.
-    numbered-check _ (all ascii text) _ refl (numbered-check _ (leb (sheetLength s) (limit l)) _ refl (limited-numbered sheetLength (limit l) 11 refl (expansion (view es) s text) n (expansion-numbered (view es) s text)))))
+preprocessTypst-numbered bundle text sheet n l = search (numbered-bind, numbered-check, numbered-orRefuse, limited-numbered, expansion-numbered) depth 20
 
 -- The sheet that an accepted expansion leaves.
 pub preprocessTypst-sheet : (bundle text sheet : List ℕ) (n l : ℕ) → let r = preprocessTypstOf bundle text sheet n l in r .number ≡ 0 → Sheet (limit l) (take (r .sheetLen) (r .left))

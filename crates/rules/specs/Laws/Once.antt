@@ -1,4 +1,4 @@
--- A step of the expansion that is refused has written nothing: a call is read whole, its file opened, before its first byte is output.
+-- What a refused step is: a call or include mark is read whole, its file opened, before its first byte is output.
 use mathlib.Core.Path.{_≡_, refl, sym}
 use mathlib.Core.Logic.{_≢_, _⊎_, inl, inr}
 use mathlib.Core.List.{List, [], _∷_}
