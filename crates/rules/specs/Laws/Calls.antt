@@ -26,7 +26,7 @@ use Rattle.rules.specs.Laws.Bool.{or-i-r, true-leb}
 use Rattle.rules.specs.Laws.Answer.{not-both, accepted-same, check-inv, bind-inv, orRefuse-inv}
 use Rattle.rules.specs.Laws.Limit.{limited-fits}
 use Rattle.rules.specs.Laws.Sheet.{sheet-good, Kept}
-use Rattle.rules.specs.Laws.Numbers.{numbered, numbered-accepted, numbered-check, numbered-orRefuse, numbered-bind, limited-numbered, numbered-fetch, zero-accepted}
+use Rattle.rules.specs.Laws.Numbers.{numbered, numbered-accepted, numbered-check, numbered-orRefuse, numbered-then, numbered-bind, limited-numbered, numbered-fetch, zero-accepted}
 use Rattle.rules.specs.Laws.Refusals.{includes-numbered, expansion-numbered}
 use Rattle.rules.specs.Laws.Definitions.{definitions-numbered, definitions-kept}
 use Rattle.rules.specs.Laws.Found.{entry-number}
@@ -105,7 +105,7 @@ found-known (accepted f) n z = rw (z f refl) refl
 
 pub find-known : (bundle path : List ℕ) → let k = findFileOf bundle path .number in (eqb k 0 || isRefusal k) ≡ true
 unfolding findFileOf findFileResult isRefusal
-find-known bundle path = found-known (findFileResult bundle path) (search (numbered-bind, numbered-check, numbered-orRefuse, numbered-accepted) depth 12) (find-number bundle path)
+find-known bundle path = found-known (findFileResult bundle path) (search (numbered-bind, numbered-then, numbered-check, numbered-orRefuse, numbered-accepted) depth 12) (find-number bundle path)
 
 -- TEXT.
 resolveString-fits : (sheet path : List ℕ) (n : ℕ) (o : List ℕ) → resolveStringResult sheet path n ≡ accepted o → length o ≤ n
@@ -202,7 +202,7 @@ parseDefinitions-work bundle path l w = defined-work l w (parseDefinitionsResult
 
 pub parseDefinitions-numbered : (bundle path : List ℕ) (l w : ℕ) → numbered (parseDefinitionsResult bundle path l w) ≡ true
 unfolding parseDefinitionsResult isRefusal
-parseDefinitions-numbered bundle path l w = search (numbered-bind, numbered-check, numbered-orRefuse, numbered-fetch, definitions-numbered) depth 20
+parseDefinitions-numbered bundle path l w = search (numbered-bind, numbered-then, numbered-check, numbered-orRefuse, numbered-fetch, definitions-numbered) depth 20
 
 pub parseDefinitions-sheet : (bundle path : List ℕ) (l w : ℕ) → let r = parseDefinitionsOf bundle path l w in r .number ≡ 0 → Sheet (limit l) (take (r .sheetLen) (r .left))
 unfolding parseDefinitionsOf definedAnswer padded sheetLength
@@ -214,19 +214,19 @@ parseDefinitions-sheet bundle path l w h =
 -- NUMBERS of the other calls.
 pub resolve-numbered : (sheet path : List ℕ) → numbered (resolveResult sheet path) ≡ true
 unfolding resolveResult isRefusal
-resolve-numbered sheet path = search (numbered-bind, numbered-check, numbered-orRefuse, numbered-accepted) depth 12
+resolve-numbered sheet path = search (numbered-bind, numbered-then, numbered-check, numbered-orRefuse, numbered-accepted) depth 12
 
 pub resolveString-numbered : (sheet path : List ℕ) (n : ℕ) → numbered (resolveStringResult sheet path n) ≡ true
 unfolding resolveStringResult isRefusal
-resolveString-numbered sheet path n = search (numbered-bind, numbered-check, numbered-orRefuse, numbered-accepted) depth 12
+resolveString-numbered sheet path n = search (numbered-bind, numbered-then, numbered-check, numbered-orRefuse, numbered-accepted) depth 12
 
 pub resolveIncludes-numbered : (bundle folder text : List ℕ) (n : ℕ) → numbered (resolveIncludesResult bundle folder text n) ≡ true
 unfolding resolveIncludesResult middleText isRefusal
-resolveIncludes-numbered bundle folder text n = search (numbered-bind, numbered-check, numbered-orRefuse, numbered-accepted, limited-numbered, includes-numbered) depth 20
+resolveIncludes-numbered bundle folder text n = search (numbered-bind, numbered-then, numbered-check, numbered-orRefuse, numbered-accepted, limited-numbered, includes-numbered) depth 20
 
 pub preprocessTypst-numbered : (bundle text sheet : List ℕ) (n l : ℕ) → numbered (preprocessTypstResult bundle text sheet n l) ≡ true
 unfolding preprocessTypstResult expanded isRefusal
-preprocessTypst-numbered bundle text sheet n l = search (numbered-bind, numbered-check, numbered-orRefuse, limited-numbered, expansion-numbered) depth 20
+preprocessTypst-numbered bundle text sheet n l = search (numbered-bind, numbered-then, numbered-check, numbered-orRefuse, limited-numbered, expansion-numbered) depth 20
 
 -- The sheet that an accepted expansion leaves.
 pub preprocessTypst-sheet : (bundle text sheet : List ℕ) (n l : ℕ) → let r = preprocessTypstOf bundle text sheet n l in r .number ≡ 0 → Sheet (limit l) (take (r .sheetLen) (r .left))

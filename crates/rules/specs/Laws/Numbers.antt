@@ -22,11 +22,6 @@ module _ {A : Type 0} where
   unfolding numbered
   numbered-accepted a = refl
 
-  pub numbered-check : (k : ℕ) (c : Bool) (x : Answer A) → isRefusal k ≡ true → numbered x ≡ true → numbered (check k c >> x) ≡ true
-  unfolding check _>>_ numbered
-  numbered-check k true x h n = n
-  numbered-check k false x h n = h
-
   pub numbered-orRefuse : (k : ℕ) (x : Option A) → isRefusal k ≡ true → numbered (orRefuse k x) ≡ true
   unfolding orRefuse numbered
   numbered-orRefuse k none h = h
@@ -37,7 +32,17 @@ module _ {A : Type 0} where
   unfolding numbered isRefusal
   zero-accepted x n h = true≢false (sym n ∙ ap numbered h)
 
+pub numbered-check : (k : ℕ) (c : Bool) → isRefusal k ≡ true → numbered (check k c) ≡ true
+unfolding check numbered
+numbered-check k true h = refl
+numbered-check k false h = h
+
 module _ {A B : Type 0} where
+  pub numbered-then : (x : Answer A) (y : Answer B) → numbered x ≡ true → numbered y ≡ true → numbered (x >> y) ≡ true
+  unfolding _>>_ numbered
+  numbered-then (refused k) y n m = n
+  numbered-then (accepted a) y n m = m
+
   pub numbered-bind : (x : Answer A) (f : A → Answer B) → numbered x ≡ true → ((a : A) → numbered (f a) ≡ true) → numbered (x >>= f) ≡ true
   unfolding _>>=_ numbered
   numbered-bind (refused k) f n m = n
@@ -76,14 +81,14 @@ module _ {S : Type 0} where
 write-numbered : (full : ℕ) → isRefusal full ≡ true → (e : Emit) (r : ℕ) → numberedE e ≡ true → numbered (write full r e) ≡ true
 unfolding write numberedE numbered
 write-numbered full q ok r h = refl
-write-numbered full q (put o e) r h = numbered-check full (leb (length o) r) _ q (numbered-bind (write full (r - length o) e) _ (write-numbered full q e (r - length o) h) (λ p. refl))
+write-numbered full q (put o e) r h = numbered-then _ _ (numbered-check full (leb (length o) r) q) (numbered-bind (write full (r - length o) e) _ (write-numbered full q e (r - length o) h) (λ p. refl))
 write-numbered full q (fail k) r h = h
 
 pub limited-numbered : {S : Type 0} (size : S → ℕ) (L full : ℕ) → isRefusal full ≡ true → (t : Trace S) (r : ℕ) → numberedT t ≡ true → numbered (limited size L full r t) ≡ true
 unfolding limited numberedT numbered isRefusal
 limited-numbered size L full q (fin s) r h = refl
 limited-numbered size L full q (step d t) r h =
-    numbered-check 9 (leb (size (d .state)) L) _ refl
+    numbered-then _ _ (numbered-check 9 (leb (size (d .state)) L) refl)
     (numbered-bind (write full r (d .emit)) _ (write-numbered full q (d .emit) r (and-l (numberedE (d .emit)) (numberedT t) h))
     (λ o. numbered-bind (limited size L full (r - length o) t) _ (limited-numbered size L full q t (r - length o) (and-r (numberedE (d .emit)) (numberedT t) h)) (λ p. refl)))
 
@@ -95,8 +100,8 @@ numbered-content (file c) = refl
 
 pub numbered-fetch : (v : View) (p : List ℕ) → numbered (fetch v p) ≡ true
 unfolding fetch isRefusal
-numbered-fetch v p = numbered-check _ (isPath p) _ refl (numbered-content (v p))
+numbered-fetch v p = numbered-then _ _ (numbered-check _ (isPath p) refl) (numbered-content (v p))
 
 pub numbered-opened : (v : View) (p : List ℕ) → numbered (opened v p) ≡ true
 unfolding opened plain isRefusal
-numbered-opened v p = numbered-bind (fetch v p) plain (numbered-fetch v p) (λ c. numbered-check _ (all ascii c) _ refl (numbered-accepted c))
+numbered-opened v p = numbered-bind (fetch v p) plain (numbered-fetch v p) (λ c. numbered-then _ _ (numbered-check _ (all ascii c) refl) (numbered-accepted c))

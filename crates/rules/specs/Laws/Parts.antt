@@ -29,7 +29,7 @@ use Rattle.rules.specs.Laws.Keep.{expansion-keeps}
 use Rattle.rules.specs.Laws.Sheet.{set-good, resolve-good, sheet-encode, sheet-good, sheet-size, Kept}
 use Rattle.rules.specs.Laws.Order.{pass-order, none-broken, first-kept}
 use Rattle.rules.specs.Laws.Pass.{Passes, passed-split}
-use Rattle.rules.specs.Laws.Numbers.{numbered, numbered-check, numbered-orRefuse, numbered-bind, limited-numbered, zero-accepted}
+use Rattle.rules.specs.Laws.Numbers.{numbered, numbered-check, numbered-orRefuse, numbered-then, numbered-bind, limited-numbered, zero-accepted}
 use Rattle.rules.specs.Laws.Refusals.{includes-numbered, expansion-numbered}
 
 -- THE SHEET THAT IS LEFT keeps the layout.
@@ -200,4 +200,4 @@ module _ (k : Setting) where
   pub result-numbered : (sheet t : List ℕ) → numbered (result sheet t) ≡ true
   unfolding passResult passed middleText expanded isRefusal
   result-numbered sheet t =
-      search (numbered-bind, numbered-check, numbered-orRefuse, limited-numbered, includes-numbered, expansion-numbered) depth 20
+      search (numbered-bind, numbered-then, numbered-check, numbered-orRefuse, limited-numbered, includes-numbered, expansion-numbered) depth 20
