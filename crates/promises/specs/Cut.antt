@@ -1,7 +1,7 @@
 -- DEMAND 3: a manual cut into closed parts. The words are those of 01, section 6, defined in the rules' `Parts`.
 use mathlib.Core.Path.{_≡_, sym, _∙_}
 use mathlib.Core.List.{List}
-use mathlib.Core.Bool.{Bool, true}
+use mathlib.Core.Bool.{true}
 use Prim.Native.Nat.{ℕ}
 use Rattle.rules.specs.Parts.{Setting, pass, passes, joined, closedParts, allAccepted, outputs, outputOf, lastSheet, sheetLeft}
 use Rattle.rules.specs.Laws.Parts.{one-is-many, answers}

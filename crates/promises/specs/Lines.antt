@@ -1,6 +1,6 @@
 -- The nine starred lines of 01, section 10, by computation: one checked list, over the calls' own answers.
 use mathlib.Core.Path.{_≡_, refl}
-use mathlib.Core.List.{List, [], _∷_, _++_}
+use mathlib.Core.List.{List, [], _∷_}
 use mathlib.Core.Bool.{Bool, false}
 use mathlib.Core.Option.{Option, some}
 use Prim.Native.Nat.{ℕ, _/_, _%_}

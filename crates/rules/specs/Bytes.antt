@@ -5,7 +5,7 @@ use Prim.Native.Char.{Char, code}
 use Prim.Native.Nat.{ℕ}
 use lib.Dec.{leb, ltb, eqb}
 use lib.ListN.{length}
-use Rattle.rules.specs.Reader.{Reader, bytes, the, but, all, empty, prefix, same, span}
+use Rattle.rules.specs.Reader.{bytes, the, but, all, empty, same, span}
 
 -- A byte is a number below 256. Texts hold bytes below 128.
 unfoldable pub isByte : ℕ → Bool

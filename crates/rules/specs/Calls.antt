@@ -2,7 +2,7 @@
 -- the answer, and the whole final contents of every writable buffer, accepted and refused alike.
 use mathlib.Core.Path.{_≡_}
 use mathlib.Core.Bool.{Bool, true, false, _&&_}
-use mathlib.Core.List.{List, [], _∷_, _++_}
+use mathlib.Core.List.{List, _++_}
 use mathlib.Core.Option.{Option, none, some}
 use Prim.Native.Nat.{ℕ, _*_, _-_, _≤_, min}
 use lib.Dec.{leb}

@@ -1,12 +1,11 @@
 -- Definitions (01, section 7). L: what a sheet, a value and a growing dictionary may have (section 8, refusal 9).
-use mathlib.Core.Bool.{Bool, true, false}
+use mathlib.Core.Bool.{true, false}
 use mathlib.Core.List.{List, [], _∷_, _++_}
-use mathlib.Core.Option.{Option, none, some}
 use Prim.Native.Nat.{ℕ, zero, suc}
 use lib.Dec.{leb}
 use Rattle.rules.specs.Answer.{Answer, refused, accepted}
-use Rattle.rules.specs.Reader.{Reader, ret, ifR, _>>=_, _>>_, bytes, the, but, either, empty, span, sees, skip, mark, rounds, Turn, again, stop}
-use Rattle.rules.specs.Run.{Emit, ok, fail, Did, Step}
+use Rattle.rules.specs.Reader.{Reader, ret, ifR, _>>=_, _>>_, bytes, the, but, either, span, sees, skip, mark, rounds, Turn, again, stop}
+use Rattle.rules.specs.Run.{ok, fail, Did, Step}
 use Rattle.rules.specs.Bytes.{blank, lineBlank, letter, word, nameByte, underscored}
 use Rattle.rules.specs.Sheet.{Value, text, nothing, dictionary, Records, end, set, valueLength, resolveString}
 use Rattle.rules.specs.Strings.{literal, expression}

@@ -3,10 +3,9 @@ use mathlib.Core.Bool.{Bool, true, false, not, _&&_, _||_}
 use mathlib.Core.List.{List, [], _∷_, _++_}
 use mathlib.Core.Option.{Option, none, some}
 use Prim.Native.Nat.{ℕ}
-use Prim.Native.Char.{code}
 use Rattle.rules.specs.Answer.{Answer, refused, accepted}
 use Rattle.rules.specs.Reader.{Reader, ret, ifR, _>>=_, _>>_, bytes, the, but, either, empty, same, span, sees, skip, mark, rounds, Turn, again, stop}
-use Rattle.rules.specs.Run.{Emit, ok, put, fail, Did, Step, Trace, run}
+use Rattle.rules.specs.Run.{ok, put, fail, Did, Step, Trace, run}
 use Rattle.rules.specs.Bytes.{blank, lineBlank, letter, word, nameByte, runByte, underscored, trim, trimEnd}
 use Rattle.rules.specs.Files.{View, opened}
 use Rattle.rules.specs.Sheet.{Value, text, Records, resolve, resolveString, set}

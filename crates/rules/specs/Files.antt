@@ -1,6 +1,6 @@
 -- Files and folders of a bundle (01, section 1): asking for a path, opening a file, the search for `CITATION.cff`.
 use mathlib.Core.Bool.{Bool, true, false, not, _&&_}
-use mathlib.Core.List.{List, [], _∷_, _++_}
+use mathlib.Core.List.{List, [], _∷_}
 use mathlib.Core.Option.{Option, none, some}
 use Prim.Native.Nat.{ℕ, zero, suc}
 use lib.Dec.{leb}

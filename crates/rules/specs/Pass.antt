@@ -1,9 +1,9 @@
 -- The pass (01, section 6): its unlimited run, and the closed text.
 use mathlib.Core.Bool.{Bool, _&&_}
-use mathlib.Core.List.{List, []}
+use mathlib.Core.List.{List}
 use Prim.Native.Nat.{ℕ}
 use Rattle.rules.specs.Answer.{Answer, _>>=_}
-use Rattle.rules.specs.Run.{Trace, allWhole, written, limited, endsInNewline}
+use Rattle.rules.specs.Run.{allWhole, written, limited, endsInNewline}
 use Rattle.rules.specs.Files.{View}
 use Rattle.rules.specs.Sheet.{Records, sheetLength}
 use Rattle.rules.specs.Includes.{includes}

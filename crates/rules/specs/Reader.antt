@@ -1,6 +1,6 @@
 -- Readers: the notation of sections 3 to 7. A reader answers what it reads and the text behind it.
 use mathlib.Core.Bool.{Bool, true, false, not, _&&_, _||_}
-use mathlib.Core.List.{List, [], _∷_, _++_}
+use mathlib.Core.List.{List, [], _∷_}
 use Prim.Native.Char.{Char, code}
 use Prim.Native.Nat.{ℕ, zero, suc}
 use Prim.Native.String.{String, [] as ε, _∷_ as _∷ˢ_}

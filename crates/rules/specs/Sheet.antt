@@ -7,7 +7,7 @@ use lib.Dec.{leb, eqb}
 use lib.ListN.{length}
 use Rattle.rules.specs.Reader.{all, same}
 use Rattle.rules.specs.Bytes.{ascii, word, nameByte, less, split}
-use Rattle.rules.specs.Layout.{Parser, bind, _>>=_, _>>_, pure, broken, bit, byte, word16, field, fieldIf}
+use Rattle.rules.specs.Layout.{Parser, bind, _>>=_, pure, broken, bit, byte, word16, field, fieldIf}
 
 -- A value (the Rust's `TypstValue`): a text, none, or a dictionary. Records: names with their values, in order.
 -- `nothing` is 01's none; `none` is the library's word for what is missing.

@@ -19,10 +19,6 @@ module _ {A : Type 0} where
   check-inv k true x h = (refl, h)
   check-inv k false x h = absurd (not-both h)
 
-  pub check-true : (k : ℕ) (c : Bool) (x : Answer A) → c ≡ true → (check k c >> x) ≡ x
-  unfolding check _>>_
-  check-true k c x h = rw h
-
   pub orRefuse-inv : (k : ℕ) (x : Option A) {a : A} → orRefuse k x ≡ accepted a → x ≡ some a
   unfolding orRefuse
   orRefuse-inv k none h = absurd (not-both h)

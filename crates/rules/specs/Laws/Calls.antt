@@ -1,36 +1,35 @@
 -- The public calls: what a refused one answers, what each buffer holds, the sheet that is left, closed.
 use mathlib.Core.Path.{_≡_, refl, sym, ap, _∙_}
 use mathlib.Core.Logic.{_≢_, _↔_}
-use mathlib.Core.List.{List, [], _∷_, _++_}
-use mathlib.Core.Bool.{Bool, true, false, _&&_, _||_, true≢false}
-use mathlib.Core.Option.{Option, none, some}
-use Prim.Native.Nat.{ℕ, _+_, _-_, _*_, _≤_, min}
+use mathlib.Core.List.{List}
+use mathlib.Core.Bool.{Bool, true, _||_, true≢false}
+use mathlib.Core.Option.{some}
+use Prim.Native.Nat.{ℕ, _-_, _*_, _≤_}
 use native.Mathlib.Omega.{arith}
 use native.Mathlib.Nat.{sub-zero}
 use lib.Dec.{leb, eqb}
-use lib.ListN.{length, take, drop, replicate, length-append, length-replicate}
+use lib.ListN.{length, take, replicate, length-append, length-replicate}
 use lib.Seq.{take-append-seam, drop-append-seam}
-use Rattle.rules.specs.Answer.{Answer, refused, accepted, isRefusal, _>>=_, _>>_, check, orRefuse}
+use Rattle.rules.specs.Answer.{Answer, refused, accepted, isRefusal, orRefuse}
 use Rattle.rules.specs.Reader.{all}
-use Rattle.rules.specs.Run.{limited}
 use Rattle.rules.specs.Bytes.{ascii, isPath, isFolder, parent}
-use Rattle.rules.specs.Bundle.{Entry, bundleOf}
+use Rattle.rules.specs.Bundle.{bundleOf}
 use Rattle.rules.specs.Files.{View, entryAt, isFolderOf, view, fetch}
 use Rattle.rules.specs.Sheet.{Records, encode, sheetLength, sheetOf, resolveString}
 use Rattle.rules.specs.Includes.{includes}
 use Rattle.rules.specs.Expansion.{expansion}
 use Rattle.rules.specs.Pass.{middleText, expanded, passed, closed}
-use Rattle.rules.specs.Calls.{limit, zeros, padded, Holds, Found, foundEntry, foundAnswer, findFileResult, findFileOf, Output, outputAnswer, resolveStringResult, resolveStringOf, resolveIncludesResult, resolveIncludesOf, Expanded, expandedAnswer, preprocessTypstResult, preprocessTypstOf, Defined, definedAnswer, parseDefinitionsResult, parseDefinitionsOf, resolveResult, Passed, passedAnswer, closedIn, closedOf, passResult, passOf}
+use Rattle.rules.specs.Calls.{limit, zeros, padded, Holds, Found, foundAnswer, findFileResult, findFileOf, outputAnswer, resolveStringResult, resolveStringOf, resolveIncludesResult, resolveIncludesOf, expandedAnswer, preprocessTypstResult, preprocessTypstOf, definedAnswer, parseDefinitionsResult, parseDefinitionsOf, resolveResult, passedAnswer, closedOf, passResult, passOf}
 use Rattle.rules.specs.Parts.{sheetLeft, Setting, pass, isClosed}
 use Rattle.rules.specs.Laws.Bool.{or-i-r, true-leb}
-use Rattle.rules.specs.Laws.Answer.{not-both, accepted-same, check-inv, bind-inv, orRefuse-inv}
+use Rattle.rules.specs.Laws.Answer.{accepted-same, check-inv, bind-inv, orRefuse-inv}
 use Rattle.rules.specs.Laws.Limit.{limited-fits}
 use Rattle.rules.specs.Laws.Sheet.{sheet-good, Kept}
 use Rattle.rules.specs.Laws.Numbers.{numbered, numbered-accepted, numbered-check, numbered-orRefuse, numbered-then, numbered-bind, limited-numbered, numbered-fetch, zero-accepted}
 use Rattle.rules.specs.Laws.Refusals.{includes-numbered, expansion-numbered}
 use Rattle.rules.specs.Laws.Definitions.{definitions-numbered, definitions-kept}
 use Rattle.rules.specs.Laws.Found.{entry-number}
-use Rattle.rules.specs.Laws.Parts.{kept-sheet, expanded-kept, Ran, ran-inv, ran-kept, Answers, answers, result-numbered}
+use Rattle.rules.specs.Laws.Parts.{kept-sheet, expanded-kept, ran-inv, ran-kept, answers, result-numbered}
 
 -- FORMS. `form` makes a call's answer of its result: a number other than 0 is a refusal, and 0 is an acceptance.
 module _ {A R : Type 0} (form : Answer A → R) (number : R → ℕ) (of-refused : (k : ℕ) → number (form (refused k)) ≡ k) (of-accepted : (a : A) → number (form (accepted a)) ≡ 0) where

@@ -3,7 +3,7 @@ use mathlib.Core.Path.{_≡_, refl}
 use mathlib.Core.List.{List, [], _∷_}
 use mathlib.Core.Bool.{Bool, true, false}
 use mathlib.Core.Option.{Option, none, some}
-use Prim.Native.Nat.{ℕ, zero, suc, _-_, _≤_}
+use Prim.Native.Nat.{ℕ, zero, suc, _-_}
 use native.Mathlib.Omega.{arith}
 use lib.Dec.{leb}
 use lib.ListN.{length}
@@ -15,7 +15,7 @@ use Rattle.rules.specs.Files.{View, File, absent, folder, file}
 use Rattle.rules.specs.Sheet.{Value, Records, end, rec, encode, sheetLength, goodValue, goodRecords, get, set}
 use Rattle.rules.specs.Definitions.{Names, star, listed, definitionStep}
 use Rattle.rules.specs.Imports.{bindOne, bindIf, bindAll, bindListed, bindNames, importFile, imported, fileSheet, importedSheet, definitions}
-use Rattle.rules.specs.Laws.Bool.{and-l, and-r, and-i, true-leb, leb-true}
+use Rattle.rules.specs.Laws.Bool.{and-l, and-r, and-i, leb-true}
 use Rattle.rules.specs.Laws.Answer.{accepted-same, check-inv, bind-inv}
 use Rattle.rules.specs.Laws.Numbers.{numbered, numberedE, numberedT, limited-numbered}
 use Rattle.rules.specs.Laws.Limit.{limited-text}
@@ -158,7 +158,3 @@ module _ (L : ℕ) (v : View) where
   -- The sheet of an accepted file has good records, and at most L bytes.
   pub definitions-kept : (g c : List ℕ) (s : Records) → definitions L v g c ≡ accepted s → Kept L s
   definitions-kept g c s a = record { good = or-accepted sheetGood (definitions L v g c) (definitions-good g c) a; small = bytes-small g c s a }
-
-  -- It is at most L bytes long.
-  pub definitions-small : (g c : List ℕ) (s : Records) → definitions L v g c ≡ accepted s → sheetLength s ≤ L
-  definitions-small g c s a = true-leb (sheetLength s) L (definitions-kept g c s a .small)

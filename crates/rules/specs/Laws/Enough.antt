@@ -6,11 +6,11 @@ use Prim.Native.Nat.{ℕ, zero, suc, _+_, _-_, _≤_, _<_}
 use native.Mathlib.Omega.{arith}
 use lib.ListN.{length, length-append, drop, length-drop, getD}
 use lib.Seq.{drop-cons, drop-drop}
-use Rattle.rules.specs.Reader.{Reader, ret, ifR, _>>=_, _>>_, the, but, either, empty, same, span, sees, skip, mark, loop, rounds, Turn, again, stop}
-use Rattle.rules.specs.Run.{Did, Step, Trace, step, run}
-use Rattle.rules.specs.Bytes.{blank, lineBlank, letter, word, runByte}
-use Rattle.rules.specs.Strings.{escape, onto, literalFrom, literal, reference, plus, expressionRound, expression}
-use Rattle.rules.specs.Expansion.{langValue, blockValue, argumentValue, argumentRound, Arguments, stalled, arguments}
+use Rattle.rules.specs.Reader.{Reader, ret, ifR, _>>=_, _>>_, the, but, either, empty, same, span, sees, skip, loop, rounds, Turn, again, stop}
+use Rattle.rules.specs.Run.{Step, Trace, step, run}
+use Rattle.rules.specs.Bytes.{blank, lineBlank, word}
+use Rattle.rules.specs.Strings.{onto, literalFrom, literal, reference, plus, expressionRound}
+use Rattle.rules.specs.Expansion.{langValue, blockValue, argumentValue, argumentRound, arguments}
 
 module _ {S : Type 0} (f : Step S) where
   pub run-skip : (t : List ℕ) (k : ℕ) (s : S) → run f s k t ≡ run f s 0 (drop k t)

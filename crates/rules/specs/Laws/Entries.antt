@@ -198,9 +198,6 @@ module _ (L : ℕ) (s : Records) where
       (takes-sees (either "_" letter) (λ l. takes-text (λ n. l))
       (λ l. takes-past (but "\n") (shrinks-ret (accepted nothing)) (λ n. absurd (true≢false (sym (no-newline x (the "\n" x) refl h) ∙ n))))))))
 
-  pub value-moves : (inner : Reader (Answer Value)) → Shrinks inner → (x : ℕ) (xs : List ℕ) → blank x ≡ false → length (value L s inner (x ∷ xs) .1) < suc (length xs)
-  value-moves inner I x xs h = takes-value inner I x h .takes xs
-
   -- The key takes the byte, or the skip behind it, or the value
   moves-entry : (inner : Reader (Answer Value)) → Shrinks inner → (d : Records) → Moves (entryRound L s inner d)
   unfolding entryRound either the

@@ -1,18 +1,18 @@
 -- Every reader of the expansion obeys the law of readers, and every step of it the law of steps.
 use mathlib.Core.Path.{_≡_, refl, sym, ap, _∙_}
 use mathlib.Core.List.{List, [], _∷_, _++_}
-use mathlib.Core.Bool.{Bool, true, false, not, _&&_, true≢false}
-use Prim.Native.Nat.{ℕ, zero, suc}
+use mathlib.Core.Bool.{Bool, true, false, true≢false}
+use Prim.Native.Nat.{ℕ}
 use native.Mathlib.Omega.{arith}
-use Rattle.rules.specs.Reader.{Reader, ret, ifR, _>>=_, _>>_, bytes, the, but, either, empty, span, sees, skip, mark, rounds}
-use Rattle.rules.specs.Run.{Emit, unrefused, Did, Trace, run, allWhole, endsInNewline}
+use Rattle.rules.specs.Reader.{Reader, _>>_, the, but, either, skip}
+use Rattle.rules.specs.Run.{unrefused, allWhole, endsInNewline}
 use Rattle.rules.specs.Bytes.{blank, lineBlank, letter, digit, word, nameByte, runByte}
 use Rattle.rules.specs.Files.{View}
 use Rattle.rules.specs.Sheet.{Records}
 use Rattle.rules.specs.Strings.{reference, plus, expressionRound, expression}
-use Rattle.rules.specs.Expansion.{Call, handsBack, refuses, outputs, Content, handedBack, noContent, given, readCall, content, Arguments, stalled, arguments, langValue, blockValue, argumentValue, argumentRound, rawText, rawEnd, rawArguments, raw, linkContentBlock, linkEnd, link, callDid, calling, callStep, importStep, letStep, referenceStep, copyStep, expansionStep, expansion}
+use Rattle.rules.specs.Expansion.{Call, handsBack, refuses, outputs, Content, handedBack, noContent, given, readCall, content, Arguments, stalled, arguments, langValue, blockValue, argumentValue, argumentRound, rawEnd, rawArguments, raw, linkContentBlock, linkEnd, link, callDid, calling, callStep, importStep, letStep, referenceStep, copyStep, expansionStep, expansion}
 use Rattle.rules.specs.Laws.Limit.{joinRuns}
-use Rattle.rules.specs.Laws.Read.{Some, newline-tail, Good, Line, good-bind, good-skip, good-span, good-rounds, line-span, line-sees, line-mark, inline}
+use Rattle.rules.specs.Laws.Read.{Some, newline-tail, Good, good-bind, good-skip, good-span, good-rounds, line-span, line-sees, line-mark, inline}
 use Rattle.rules.specs.Laws.Steps.{goods, good-sees, good-mark, Steps, steps-ret, steps-skip, steps-if, steps-bind, steps-then, run-append, Sure, sure-no, sure-if, sure-bind, sure-then, sure-close, surein-sure, surein-ret, surein-if, surein-bind, surein-then, sure-over, some-not, empty-append}
 
 -- Does a call end on its own byte.

@@ -52,14 +52,6 @@ leaves-bind {p = p} {f} P F = record {
       F (i .0 .0) .leaves (i .0 .1) (P .leaves t e (i .1)) (i .2);
 }
 
-leaves-then : {A B : Type 0} {p : Parser A} {q : Parser B} → Leaves p → Leaves q → Leaves (Layout._>>_ p q)
-unfolding Layout._>>_
-leaves-then {p = p} {q} P Q = record {
-  leaves = λ t e h.
-      let i = some-inv (p t) (λ r. q (r .1)) h in
-      Q .leaves (i .0 .1) (P .leaves t e (i .1)) (i .2);
-}
-
 byte-is : (t : List ℕ) {x : ℕ} {u : List ℕ} → byte t ≡ some (x, u) → t ≡ x ∷ u
 unfolding byte
 byte-is [] h = absurd (let z : _≡_ {A = ℕ} 0 1 = cc in omega arith)

@@ -2,18 +2,18 @@
 -- over a closed text ends where a new stretch begins.
 use mathlib.Core.Path.{_≡_, refl, sym, ap, _∙_}
 use mathlib.Core.List.{List, [], _∷_, _++_, append-nil}
-use mathlib.Core.Bool.{Bool, true, false, not, _&&_, true≢false}
+use mathlib.Core.Bool.{Bool, true, false, _&&_, true≢false}
 use Prim.Native.Nat.{ℕ, zero, suc, _-_, _≤_, _<_}
 use native.Mathlib.Omega.{arith}
 use native.Mathlib.Decide.{decLe}
-use lib.Dec.{eqb, eqb→eq}
+use lib.Dec.{eqb→eq}
 use lib.ListN.{length}
 use Rattle.rules.specs.Answer.{Answer, refused, accepted}
-use Rattle.rules.specs.Reader.{Reader, ret, ifR, _>>=_, _>>_, bytes, the, but, empty, prefix, span, sees, skip, mark}
-use Rattle.rules.specs.Run.{Emit, ok, put, fail, unrefused, pieces, Did, Step, Trace, fin, step, run, allWhole, written, final, endsInNewline}
-use Rattle.rules.specs.Bytes.{blank, trim}
+use Rattle.rules.specs.Reader.{Reader, ret, ifR, _>>=_, bytes, the, but, prefix, mark}
+use Rattle.rules.specs.Run.{Emit, unrefused, pieces, Did, Step, run, allWhole, written, final, endsInNewline}
+use Rattle.rules.specs.Bytes.{blank}
 use Rattle.rules.specs.Files.{View}
-use Rattle.rules.specs.Includes.{commented, Quoted, unquoted, quoted, quotedIf, quote, Source, noParen, noPath, noLanguage, source, withLanguage, withPath, sourceArguments, overParen, toNewline, behindSource, lastNewline, fenced, wrote, copied, copyByte, included, includeOf, includeMark, sourceText, sourceOf, sourceMark, includeStep, insideFile, includes}
+use Rattle.rules.specs.Includes.{Quoted, unquoted, quoted, quotedIf, quote, Source, noParen, noPath, noLanguage, source, withLanguage, withPath, sourceArguments, overParen, toNewline, behindSource, lastNewline, fenced, wrote, copyByte, includeOf, includeMark, sourceText, sourceOf, sourceMark, includeStep, insideFile, includes}
 use Rattle.rules.specs.Laws.Bool.{and-l, and-r}
 use Rattle.rules.specs.Laws.Limit.{joinRuns}
 use Rattle.rules.specs.Laws.Read.{Some, newline-tail, Good, Line, good-skip, good-span, line-mark, inline}

@@ -1,19 +1,19 @@
 -- What holds of a sheet, and is kept by a binding, holds of the sheet that an accepted run leaves.
-use mathlib.Core.Path.{_≡_, refl, ap}
-use mathlib.Core.List.{List, [], _∷_, _++_}
-use mathlib.Core.Bool.{Bool, true, false, _&&_}
+use mathlib.Core.Path.{_≡_, ap}
+use mathlib.Core.List.{List, [], _∷_}
+use mathlib.Core.Bool.{Bool, true, false}
 use Prim.Native.Nat.{ℕ, zero, suc, _-_}
 use lib.Dec.{leb}
 use lib.ListN.{length}
-use Rattle.rules.specs.Answer.{Answer, refused, accepted}
-use Rattle.rules.specs.Reader.{Reader, ret, ifR, _>>=_, _>>_, bytes, but, either, all, span, sees, skip, mark}
-use Rattle.rules.specs.Run.{Did, Step, Trace, run, limited}
+use Rattle.rules.specs.Answer.{accepted}
+use Rattle.rules.specs.Reader.{Reader, ret, ifR, _>>=_, _>>_, but, either, all, span, skip}
+use Rattle.rules.specs.Run.{Did, Step, run, limited}
 use Rattle.rules.specs.Bytes.{ascii, word, nameByte, lineBlank, underscored, trim}
 use Rattle.rules.specs.Files.{View}
 use Rattle.rules.specs.Sheet.{Records, resolve, set}
 use Rattle.rules.specs.Expansion.{Call, handsBack, refuses, outputs, letValue, writes, binds, callDid, calling, callStep, importStep, letStep, referenceStep, copyStep, expansionStep, expansion}
 use Rattle.rules.specs.Laws.Answer.{accepted-same}
-use Rattle.rules.specs.Laws.Limit.{limited-inv, Stepped}
+use Rattle.rules.specs.Laws.Limit.{limited-inv}
 use Rattle.rules.specs.Laws.Texts.{all-tail, span-all, Clean, clean-span, clean-sees, clean-mark, clean-skip, trim-all, underscored-words}
 
 -- A step keeps P, where the sheet after it is at most L bytes.

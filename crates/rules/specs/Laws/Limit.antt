@@ -1,16 +1,16 @@
 -- Limits: more room changes nothing; an accepted run over two texts is two accepted runs; what is written is what the run says.
 use mathlib.Core.Path.{_≡_, refl, sym, ap, _∙_}
-use mathlib.Core.List.{List, [], _∷_, _++_, append-assoc}
-use mathlib.Core.Bool.{Bool, true, false, _&&_}
-use Prim.Native.Nat.{ℕ, _+_, _-_, _≤_}
+use mathlib.Core.List.{List, [], _++_, append-assoc}
+use mathlib.Core.Bool.{true}
+use Prim.Native.Nat.{ℕ, _-_, _≤_}
 use native.Mathlib.Omega.{arith}
 use native.Mathlib.Nat.{sub-zero}
 use lib.Dec.{leb}
 use lib.ListN.{length, length-append}
-use Rattle.rules.specs.Answer.{Answer, refused, accepted, _>>=_, _>>_, check}
+use Rattle.rules.specs.Answer.{accepted, _>>=_, _>>_, check}
 use Rattle.rules.specs.Run.{Emit, ok, put, fail, unrefused, pieces, Did, Trace, fin, step, written, final, write, limited}
 use Rattle.rules.specs.Laws.Bool.{true-leb, leb-true}
-use Rattle.rules.specs.Laws.Answer.{not-both, accepted-same, check-inv, check-true, bind-inv}
+use Rattle.rules.specs.Laws.Answer.{not-both, accepted-same, check-inv, bind-inv}
 
 -- One run, then another from the state that it left.
 module _ {S : Type 0} where

@@ -1,16 +1,15 @@
 -- The middle text of a text with bytes below 128 has bytes below 128.
-use mathlib.Core.Path.{_≡_, refl, sym, ap, _∙_}
+use mathlib.Core.Path.{_≡_, refl}
 use mathlib.Core.List.{List, [], _∷_, _++_}
 use mathlib.Core.Bool.{Bool, true, false, not, _&&_}
 use Prim.Native.Nat.{ℕ, zero, suc, _-_}
 use lib.ListN.{length}
 use Rattle.rules.specs.Answer.{Answer, refused, accepted}
-use Rattle.rules.specs.Answer
-use Rattle.rules.specs.Reader.{Reader, ret, ifR, _>>=_, _>>_, bytes, the, but, all, empty, span, sees, skip, mark}
-use Rattle.rules.specs.Run.{Emit, ok, put, fail, andThen, pieces, Did, Step, Trace, run, emitted, written, endsInNewline}
+use Rattle.rules.specs.Reader.{Reader, ret, ifR, _>>=_, _>>_, bytes, the, but, all, empty, span, sees, skip}
+use Rattle.rules.specs.Run.{Emit, ok, put, fail, andThen, pieces, Did, Step, run, emitted, written, endsInNewline}
 use Rattle.rules.specs.Bytes.{ascii, blank, trim, join}
 use Rattle.rules.specs.Files.{View, fetch, plain, opened}
-use Rattle.rules.specs.Includes.{commented, Quoted, unquoted, quoted, quotedIf, quote, Source, noParen, noPath, noLanguage, source, withLanguage, withPath, sourceArguments, toNewline, lastNewline, fenced, wrote, copied, copyByte, included, includeOf, includeMark, sourceText, sourceOf, sourceMark, includeStep, insideFile, includes}
+use Rattle.rules.specs.Includes.{Quoted, unquoted, quoted, quotedIf, quote, Source, noParen, noPath, noLanguage, source, withLanguage, withPath, sourceArguments, toNewline, lastNewline, fenced, wrote, copied, copyByte, included, includeOf, includeMark, sourceText, sourceOf, sourceMark, includeStep, insideFile, includes}
 use Rattle.rules.specs.Laws.Bool.{and-l, and-r, and-i}
 use Rattle.rules.specs.Laws.Answer.{accepted-same, check-inv, bind-inv}
 use Rattle.rules.specs.Laws.Texts.{all-append, all-tail, span-all, Clean, clean-span, clean-sees, clean-mark, clean-skip, clean-ret, clean-bind, clean-then}

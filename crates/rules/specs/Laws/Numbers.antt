@@ -1,14 +1,14 @@
 -- Every refusal has a number of section 8: answers, limits and files.
 use mathlib.Core.Path.{_≡_, refl, sym, ap, _∙_}
-use mathlib.Core.List.{List, [], _∷_, _++_}
+use mathlib.Core.List.{List, [], _∷_}
 use mathlib.Core.Bool.{Bool, true, false, _&&_, true≢false}
 use mathlib.Core.Option.{Option, none, some}
 use Prim.Native.Nat.{ℕ, zero, suc, _-_}
-use lib.Dec.{leb, eqb}
+use lib.Dec.{leb}
 use lib.ListN.{length}
 use Rattle.rules.specs.Answer.{Answer, refused, accepted, isRefusal, _>>=_, _>>_, check, orRefuse}
 use Rattle.rules.specs.Reader.{all}
-use Rattle.rules.specs.Run.{Emit, ok, put, fail, andThen, Did, Step, Trace, fin, step, run, emitted, write, limited}
+use Rattle.rules.specs.Run.{Emit, ok, put, fail, andThen, Step, Trace, fin, step, run, emitted, write, limited}
 use Rattle.rules.specs.Bytes.{ascii, isPath}
 use Rattle.rules.specs.Files.{View, File, absent, folder, file, contentOf, fetch, plain, opened}
 use Rattle.rules.specs.Laws.Bool.{and-l, and-r, and-i}

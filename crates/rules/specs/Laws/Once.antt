@@ -11,7 +11,7 @@ use Rattle.rules.specs.Reader.{Reader, ret, ifR, _>>=_, _>>_, bytes, all
 use Rattle.rules.specs.Run.{Emit, ok, put, fail, andThen, unrefused, Did}
 use Rattle.rules.specs.Bytes.{ascii, join, parent, trim}
 use Rattle.rules.specs.Files.{View, fetch, plain, opened}
-use Rattle.rules.specs.Includes.{commented, Quoted, unquoted, quoted, quote, Source, noParen, noPath, noLanguage, source, sourceArguments, toNewline, fenced, wrote, copied, copyByte, included, includeOf, includeMark, sourceText, sourceOf, sourceMark, includeStep, insideFile}
+use Rattle.rules.specs.Includes.{commented, Quoted, unquoted, quoted, quote, Source, noParen, noPath, noLanguage, source, sourceArguments, toNewline, fenced, wrote, copied, copyByte, included, includeOf, includeMark, sourceOf, sourceMark, includeStep, insideFile}
 use Rattle.rules.specs.Sheet.{Records}
 use Rattle.rules.specs.Expansion.{Call, handsBack, refuses, outputs, writes, binds, callDid, calling, callStep, importStep, letStep, referenceStep, copyStep, expansionStep}
 use Rattle.rules.specs.Laws.Refusals.{Yields, yields-if, yields-bind, yields-then}

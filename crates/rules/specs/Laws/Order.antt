@@ -1,5 +1,5 @@
 -- The order of the argument refusals: a call whose arguments break a rule is refused with the number of the first that is broken.
-use mathlib.Core.Path.{_≡_, refl, sym, ap, _∙_}
+use mathlib.Core.Path.{_≡_, refl, sym, _∙_}
 use mathlib.Core.Logic.{_≢_}
 use mathlib.Core.List.{List, [], _∷_}
 use mathlib.Core.Bool.{Bool, true, false}
@@ -10,10 +10,10 @@ use lib.Dec.{leb, eqb}
 use lib.ListN.{length, take, drop}
 use Rattle.rules.specs.Answer.{Answer, refused, accepted, _>>=_, _>>_, check, isSome, orRefuse, firstBroken}
 use Rattle.rules.specs.Reader.{all}
-use Rattle.rules.specs.Bytes.{ascii, isPath, isFolder, parent}
-use Rattle.rules.specs.Bundle.{Entry, bundleOf}
-use Rattle.rules.specs.Files.{view, fetch, contentOf}
-use Rattle.rules.specs.Sheet.{Records, sheetLength, sheetOf}
+use Rattle.rules.specs.Bytes.{ascii, isPath, isFolder}
+use Rattle.rules.specs.Bundle.{bundleOf}
+use Rattle.rules.specs.Files.{fetch}
+use Rattle.rules.specs.Sheet.{sheetOf}
 use Rattle.rules.specs.Imports.{definitions, fileSheet}
 use Rattle.rules.specs.Calls.{limit, resolveResult, resolveStringResult, findFileResult, findFileOf, resolveIncludesResult, preprocessTypstResult, parseDefinitionsResult, passResult}
 use Rattle.rules.specs.Laws.Bool.{true-some, false-some, true-eqb, false-eqb}

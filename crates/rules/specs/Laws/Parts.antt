@@ -1,35 +1,34 @@
 -- A list of passes beside one pass (01, demand 3).
 use mathlib.Core.Path.{_≡_, refl, sym, ap, _∙_}
 use mathlib.Core.List.{List, [], _∷_, _++_, append-nil}
-use mathlib.Core.Bool.{Bool, true, false, _&&_, true≢false}
+use mathlib.Core.Bool.{true, _&&_}
 use mathlib.Core.Option.{Option, none, some}
-use Prim.Native.Nat.{ℕ, _-_, _≤_, min}
+use Prim.Native.Nat.{ℕ, _-_, _≤_}
 use native.Mathlib.Omega.{arith}
-use lib.Dec.{leb, eqb}
-use lib.ListN.{length, take, replicate}
+use lib.Dec.{leb}
+use lib.ListN.{length}
 use lib.Seq.{take-append-seam}
-use Rattle.rules.specs.Answer.{Answer, refused, accepted, isRefusal, _>>=_, _>>_, check, orRefuse}
+use Rattle.rules.specs.Answer.{Answer, accepted, isRefusal, _>>=_, _>>_, check, orRefuse}
 use Rattle.rules.specs.Reader.{all}
-use Rattle.rules.specs.Run.{written, limited}
 use Rattle.rules.specs.Bytes.{ascii, word, isFolder}
 use Rattle.rules.specs.Bundle.{Entry, bundleOf}
 use Rattle.rules.specs.Files.{View, view}
-use Rattle.rules.specs.Sheet.{Value, text, Records, encode, sheetLength, sheetOf, goodValue, goodRecords, resolve, set}
+use Rattle.rules.specs.Sheet.{Value, Records, encode, sheetLength, sheetOf, goodValue, goodRecords, resolve}
 use Rattle.rules.specs.Includes.{includes}
-use Rattle.rules.specs.Expansion.{letValue, expansion}
+use Rattle.rules.specs.Expansion.{letValue}
 use Rattle.rules.specs.Pass.{middleText, expanded, passed, closed}
 use Rattle.rules.specs.Calls.{limit, zeros, padded, Passed, passedAnswer, closedIn, closedOf, passResult, passOf}
 use Rattle.rules.specs.Parts.{outputOf, sheetLeft, Setting, pass, isClosed, passes, closedParts, joined, allAccepted, outputs, lastSheet}
-use Rattle.rules.specs.Laws.Bool.{and-l, and-r, and-i, true-leb, true-some}
-use Rattle.rules.specs.Laws.Answer.{check-inv, check-true, bind-inv, bind-accepted, orRefuse-inv}
+use Rattle.rules.specs.Laws.Bool.{and-l, and-r, true-leb, true-some}
+use Rattle.rules.specs.Laws.Answer.{bind-inv}
 use Rattle.rules.specs.Laws.Limit.{limited-text}
 use Rattle.rules.specs.Laws.Texts.{all-left, all-right}
 use Rattle.rules.specs.Laws.Middle.{middle-plain}
 use Rattle.rules.specs.Laws.Keep.{expansion-keeps}
 use Rattle.rules.specs.Laws.Sheet.{set-good, resolve-good, sheet-encode, sheet-good, sheet-size, Kept}
 use Rattle.rules.specs.Laws.Order.{pass-order, none-broken, first-kept}
-use Rattle.rules.specs.Laws.Pass.{Passes, passed-split}
-use Rattle.rules.specs.Laws.Numbers.{numbered, numbered-check, numbered-orRefuse, numbered-then, numbered-bind, limited-numbered, zero-accepted}
+use Rattle.rules.specs.Laws.Pass.{passed-split}
+use Rattle.rules.specs.Laws.Numbers.{numbered, numbered-check, numbered-orRefuse, numbered-then, numbered-bind, limited-numbered}
 use Rattle.rules.specs.Laws.Refusals.{includes-numbered, expansion-numbered}
 
 -- THE SHEET THAT IS LEFT keeps the layout.

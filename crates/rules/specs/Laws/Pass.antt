@@ -1,12 +1,12 @@
 -- One pass over a ++ c, a closed, is the pass over a and then the pass over c.
-use mathlib.Core.Path.{_≡_, refl, sym, ap, _∙_}
-use mathlib.Core.List.{List, [], _∷_, _++_}
-use mathlib.Core.Bool.{Bool, true, false, _&&_}
-use Prim.Native.Nat.{ℕ, _-_, _≤_}
+use mathlib.Core.Path.{_≡_, sym, ap, _∙_}
+use mathlib.Core.List.{List, [], _++_}
+use mathlib.Core.Bool.{true, _&&_}
+use Prim.Native.Nat.{ℕ, _-_}
 use native.Mathlib.Omega.{arith}
 use lib.ListN.{length}
-use Rattle.rules.specs.Answer.{Answer, refused, accepted, _>>=_}
-use Rattle.rules.specs.Run.{Trace, run, allWhole, written, final, limited, endsInNewline}
+use Rattle.rules.specs.Answer.{Answer, accepted}
+use Rattle.rules.specs.Run.{run, allWhole, written, final, limited, endsInNewline}
 use Rattle.rules.specs.Files.{View}
 use Rattle.rules.specs.Sheet.{Records, sheetLength}
 use Rattle.rules.specs.Includes.{includeStep, insideFile, includes}
@@ -14,7 +14,7 @@ use Rattle.rules.specs.Expansion.{expansion}
 use Rattle.rules.specs.Pass.{middleText, expanded, passed, closed}
 use Rattle.rules.specs.Laws.Bool.{and-l, and-r}
 use Rattle.rules.specs.Laws.Answer.{bind-inv, bind-accepted}
-use Rattle.rules.specs.Laws.Limit.{limited-mono, limited-split, limited-text, Parts}
+use Rattle.rules.specs.Laws.Limit.{limited-mono, limited-split, limited-text}
 use Rattle.rules.specs.Laws.Expansion.{expansion-append}
 use Rattle.rules.specs.Laws.Includes.{includes-append, includes-sealed}
 

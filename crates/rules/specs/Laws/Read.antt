@@ -41,19 +41,10 @@ module _ {A : Type 0} where
   unfolding ret
   good-ret a = record { local = λ t b e h. refl; ends = λ t e. e; nil = refl }
 
-  pub line-ret : (a : A) → Line (ret a)
-  unfolding ret
-  line-ret a = record { good = good-ret a; some = λ t e h. h }
-
   pub good-if : (c : Bool) {r q : Reader A} → Good r → Good q → Good (ifR c r q)
   unfolding ifR
   good-if true g k = g
   good-if false g k = k
-
-  pub line-if : (c : Bool) {r q : Reader A} → Line r → Line q → Line (ifR c r q)
-  unfolding ifR
-  line-if true g k = g
-  line-if false g k = k
 
 module _ {A B : Type 0} where
   pub good-bind : {m : Reader A} {f : A → Reader B} → Good m → ((a : A) → Good (f a)) → Good (m >>= f)
@@ -74,20 +65,6 @@ module _ {A B : Type 0} where
         rw (M .local t b e u) (F .local (m t .1) b (M .ends t e) h);
     ends = λ t e. F .ends (m t .1) (M .ends t e);
     nil = ap (λ (u : List ℕ). f u .1) (M .nil) ∙ F .nil;
-  }
-
-  pub line-bind : {m : Reader A} {f : A → Reader B} → Line m → ((a : A) → Line (f a)) → Line (m >>= f)
-  unfolding _>>=_
-  line-bind {m} {f} M F = record {
-    good = good-bind (M .good) (λ a. F a .good);
-    some = λ t e h. F (m t .0) .some (m t .1) (M .good .ends t e) (M .some t e h);
-  }
-
-  pub line-then : {m : Reader A} {f : Reader B} → Line m → Line f → Line (m >> f)
-  unfolding _>>_
-  line-then {m} {f} M F = record {
-    good = good-then (M .good) (F .good);
-    some = λ t e h. F .some (m t .1) (M .good .ends t e) (M .some t e h);
   }
 
 module _ (p : ℕ → Bool) where

@@ -1,21 +1,16 @@
 -- Every refusal has a number of section 8: the steps of includes, expansion and definitions.
-use mathlib.Core.Path.{_≡_, refl, sym, ap, _∙_}
-use mathlib.Core.List.{List, [], _∷_, _++_}
+use mathlib.Core.Path.{_≡_, refl}
+use mathlib.Core.List.{List, [], _∷_}
 use mathlib.Core.Bool.{Bool, true, false}
-use mathlib.Core.Option.{Option, none, some}
 use Prim.Native.Nat.{ℕ, zero, suc}
-use lib.Dec.{leb}
-use lib.ListN.{length}
 use Rattle.rules.specs.Answer.{Answer, refused, accepted, isRefusal}
-use Rattle.rules.specs.Reader.{Reader, ret, ifR, _>>=_, _>>_, bytes, the, all, span, sees, skip, mark, rounds, loop, Turn, again, stop}
-use Rattle.rules.specs.Run.{Emit, ok, put, fail, Did, Step, Trace, run, emitted}
+use Rattle.rules.specs.Reader.{Reader, ret, ifR, _>>=_, _>>_, bytes, all, skip}
+use Rattle.rules.specs.Run.{Emit, ok, put, Did}
 use Rattle.rules.specs.Bytes.{ascii, trim, join}
 use Rattle.rules.specs.Files.{View, fetch, opened}
-use Rattle.rules.specs.Sheet.{Value, dictionary, text, Records, set, valueLength}
-use Rattle.rules.specs.Includes.{commented, Quoted, unquoted, quoted, quote, Source, noParen, noPath, noLanguage, source, sourceArguments, toNewline, fenced, wrote, copied, copyByte, included, includeOf, includeMark, sourceText, sourceOf, sourceMark, includeStep, insideFile, includes}
+use Rattle.rules.specs.Sheet.{Records}
+use Rattle.rules.specs.Includes.{Quoted, unquoted, quoted, quote, Source, noParen, noPath, noLanguage, source, sourceArguments, toNewline, fenced, wrote, copied, copyByte, included, includeOf, includeMark, sourceText, sourceOf, sourceMark, includeStep, insideFile, includes}
 use Rattle.rules.specs.Expansion.{Call, handsBack, refuses, outputs, Content, handedBack, noContent, given, rawContent, readCall, content, Arguments, stalled, arguments, rawEnd, rawArguments, raw, linkContentBlock, linkEnd, link, writes, binds, callDid, calling, callStep, importStep, letStep, referenceStep, copyStep, expansionStep, expansion}
-use Rattle.rules.specs.Definitions.{measured, textValue, value, grown, entryRound, dictionaryValue, Names, bound, letBound, definitionStep}
-use Rattle.rules.specs.Definitions
 use Rattle.rules.specs.Laws.Numbers.{numbered, numberedE, numberedT, numberedE-andThen, run-numbered, emitted-numbered, numbered-fetch, numbered-opened}
 
 -- What a reader answers has q.

@@ -6,10 +6,10 @@ use mathlib.Core.Bool.{Bool, true, false, not, _&&_, true≢false}
 use Prim.Native.Char.{Char}
 use Prim.Native.Nat.{ℕ, zero, suc, _-_, _≤_}
 use native.Mathlib.Omega.{arith}
-use lib.Dec.{eqb, eqb→eq}
+use lib.Dec.{eqb→eq}
 use lib.ListN.{length, length-append}
-use Rattle.rules.specs.Reader.{Reader, ret, ifR, _>>=_, _>>_, the, empty, span, sees, skip, mark}
-use Rattle.rules.specs.Run.{Emit, unrefused, Did, Step, Trace, fin, step, run, allWhole, endsInNewline}
+use Rattle.rules.specs.Reader.{Reader, ret, ifR, _>>=_, _>>_, the, empty, sees, skip, mark}
+use Rattle.rules.specs.Run.{unrefused, Did, Step, step, run, allWhole, endsInNewline}
 use Rattle.rules.specs.Laws.Bool.{and-l, and-r}
 use Rattle.rules.specs.Laws.Limit.{joinRuns}
 use Rattle.rules.specs.Laws.Read.{Some, newline-tail, Good, Line, good-ret, good-if, good-bind, good-then, good-skip, good-span, good-literal, line-sees, line-mark, inline}

@@ -1,11 +1,10 @@
 -- Texts whose bytes all have q: joined, cut, read in part, trimmed.
 use mathlib.Core.Path.{_≡_, refl}
 use mathlib.Core.List.{List, [], _∷_, _++_}
-use mathlib.Core.Bool.{Bool, true, false, _&&_, _||_}
+use mathlib.Core.Bool.{Bool, true, false, _&&_}
 use Prim.Native.Nat.{ℕ, zero, suc}
-use lib.Dec.{eqb}
 use lib.ListN.{length, drop}
-use Rattle.rules.specs.Reader.{Reader, ret, ifR, _>>=_, _>>_, the, all, empty, prefix, span, sees, skip, mark}
+use Rattle.rules.specs.Reader.{Reader, ret, _>>=_, _>>_, the, all, empty, prefix, span, sees, skip, mark}
 use Rattle.rules.specs.Bytes.{blank, letter, digit, word, nameByte, underscored, trimEnd, trim}
 use Rattle.rules.specs.Laws.Bool.{and-l, and-r, and-i, or-l}
 
