@@ -17,13 +17,8 @@ use Rattle.rules.specs.Layout
 use Rattle.rules.specs.Bundle.{Entry, entry, bundleOf, bundleParser}
 use Rattle.rules.specs.Files.{view, entryAt, isFolderOf, fileOf, contentOf, fetch}
 use Rattle.rules.specs.Laws.Bool.{not-true, true-eqb, eqb-true, false-eqb}
+use Rattle.rules.specs.Laws.Sheet.{bind-some}
 use Rattle.rules.specs.Calls.{Found, foundEntry, foundAnswer, findFileResult, findFileOf}
-
-module _ {A B : Type 0} where
-  some-inv : (x : Option A) (f : A → Option B) {b : B} → bind x f ≡ some b → (a : A) × (x ≡ some a) × (f a ≡ some b)
-  unfolding bind
-  some-inv none f h = absurd (let z : _≡_ {A = ℕ} 0 1 = cc in omega arith)
-  some-inv (some a) f h = (a, refl, h)
 
 some-same : {A : Type 0} {a b : A} → some a ≡ some b → a ≡ b
 some-same h = cc
@@ -48,7 +43,7 @@ leaves-bind : {A B : Type 0} {p : Parser A} {f : A → Parser B} → Leaves p �
 unfolding Layout._>>=_
 leaves-bind {p = p} {f} P F = record {
   leaves = λ t e h.
-      let i = some-inv (p t) (λ r. f (r .0) (r .1)) h in
+      let i = bind-some (p t) (λ r. f (r .0) (r .1)) h in
       F (i .0 .0) .leaves (i .0 .1) (P .leaves t e (i .1)) (i .2);
 }
 
@@ -74,8 +69,8 @@ take-is : (n : ℕ) (t : List ℕ) {a u : List ℕ} → takeBytes n t ≡ some (
 unfolding takeBytes pure Layout._>>=_
 take-is zero t {a} {u} h = ap (λ r. r .0 ++ r .1) (some-same h)
 take-is (suc n) t {a} {u} h =
-    let i = some-inv (byte t) _ h in
-    let j = some-inv (takeBytes n (i .0 .1)) _ (i .2) in
+    let i = bind-some (byte t) _ h in
+    let j = bind-some (takeBytes n (i .0 .1)) _ (i .2) in
     byte-is t (i .1) ∙ ap (λ r. i .0 .0 ∷ r) (take-is n (i .0 .1) (j .1)) ∙ ap (λ r. r .0 ++ r .1) (some-same (j .2))
 
 -- And so does a field.
@@ -83,9 +78,9 @@ field-ends : {b : List ℕ} (c : Bool) {len : Parser ℕ} → Leaves len → (t 
 unfolding fieldIf field pure require Layout.broken Layout._>>=_ Layout._>>_
 field-ends {b} false L t e h = subst (λ z. Ends b z) (ap (λ r. r .0 ++ r .1) (some-same h)) e
 field-ends {b} true {len} L t e h =
-    let i = some-inv (len t) _ h in
-    let j = some-inv (takeBytes (i .0 .0) (i .0 .1)) _ (i .2) in
-    let k = some-inv (require (not (empty (j .0 .0))) (j .0 .1)) _ (j .2) in
+    let i = bind-some (len t) _ h in
+    let j = bind-some (takeBytes (i .0 .0) (i .0 .1)) _ (i .2) in
+    let k = bind-some (require (not (empty (j .0 .0))) (j .0 .1)) _ (j .2) in
     let x = L .leaves t e (i .1) in
     let y : Ends b (j .0 .0 ++ j .0 .1) = subst (λ z. Ends b z) (take-is (i .0 .0) (i .0 .1) (j .1)) x in
     subst (λ z. Ends b z) (ap (λ r. j .0 .0 ++ r) (at (not (empty (j .0 .0))) (k .1)) ∙ ap (λ r. r .0 ++ r .1) (some-same (k .2))) y
@@ -115,12 +110,12 @@ stands {b} p c u e =
 entry-stands : {b : List ℕ} (t : List ℕ) {x : Entry} {u : List ℕ} → Ends b t → entry (length b) t ≡ some (x, u) → Stands b x × Ends b u
 unfolding entry pure remaining bind Layout._>>=_ Layout._>>_
 entry-stands {b} t e h =
-    let m = some-inv (byte t) _ h in
-    let r = some-inv (require _ (m .0 .1)) _ (m .2) in
-    let g = some-inv (fieldIf (bit 0 (m .0 .0)) byte (r .0 .1)) _ (r .2) in
-    let f = some-inv (fieldIf true byte (g .0 .1)) _ (g .2) in
-    let q = some-inv (require _ (f .0 .1)) _ (f .2) in
-    let c = some-inv (fieldIf (bit 2 (m .0 .0)) word16 (q .0 .1)) _ (q .2) in
+    let m = bind-some (byte t) _ h in
+    let r = bind-some (require _ (m .0 .1)) _ (m .2) in
+    let g = bind-some (fieldIf (bit 0 (m .0 .0)) byte (r .0 .1)) _ (r .2) in
+    let f = bind-some (fieldIf true byte (g .0 .1)) _ (g .2) in
+    let q = bind-some (require _ (f .0 .1)) _ (f .2) in
+    let c = bind-some (fieldIf (bit 2 (m .0 .0)) word16 (q .0 .1)) _ (q .2) in
     let e₁ = leaves-require _ .leaves _ (leaves-byte .leaves t e (m .1)) (r .1) in
     let e₂ = leaves-field true leaves-byte .leaves _ (leaves-field _ leaves-byte .leaves _ e₁ (g .1)) (f .1) in
     let e₃ = leaves-require _ .leaves _ e₂ (q .1) in
@@ -135,8 +130,8 @@ module _ (b : List ℕ) where
       let z : entryAt [] p ≡ some e = ap (λ x. entryAt x p) (ap (λ x. x .0) (some-same h)) ∙ q in
       absurd (let y : _≡_ {A = ℕ} 0 1 = cc in omega arith)
   entries-stand (suc n) t {es} k h p {e} q =
-      let i = some-inv (entry (length b) t) _ h in
-      let j = some-inv (times n (entry (length b)) (i .0 .1)) _ (i .2) in
+      let i = bind-some (entry (length b) t) _ h in
+      let j = bind-some (times n (entry (length b)) (i .0 .1)) _ (i .2) in
       let x = entry-stands t k (i .1) in
       first (i .0 .0) (j .0 .0) (same (i .0 .0 .path) p) refl (x .0) (λ r. entries-stand n (i .0 .1) (x .1) (j .1) p r) (ap (λ y. entryAt y p) (ap (λ y. y .0) (some-same (j .2))) ∙ q)
     where
@@ -148,10 +143,10 @@ module _ (b : List ℕ) where
   pub content-stands : {es : List Entry} → bundleOf b ≡ some es → (p : List ℕ) {e : Entry} → entryAt es p ≡ some e → Stands b e
   unfolding bundleOf bundleParser pure remaining bind Layout._>>=_ Layout._>>_
   content-stands {es} h p {e} q =
-      let a = some-inv (bundleParser (length b) b) _ h in
-      let c = some-inv (word16 b) _ (a .1) in
-      let d = some-inv (times (c .0 .0) (entry (length b)) (c .0 .1)) _ (c .2) in
-      let g = some-inv (require _ (d .0 .1)) _ (d .2) in
+      let a = bind-some (bundleParser (length b) b) _ h in
+      let c = bind-some (word16 b) _ (a .1) in
+      let d = bind-some (times (c .0 .0) (entry (length b)) (c .0 .1)) _ (c .2) in
+      let g = bind-some (require _ (d .0 .1)) _ (d .2) in
       let z : d .0 .0 ≡ es = ap (λ x. x .0) (some-same (g .2)) ∙ some-same (a .2) in
       entries-stand (c .0 .0) (c .0 .1) (leaves-word .leaves b (record { before = []; is = refl }) (c .1)) (d .1) p (ap (λ x. entryAt x p) z ∙ q)
 

@@ -32,7 +32,7 @@ use Rattle.rules.specs.Laws.Numbers.{numbered, numbered-check, numbered-
 use Rattle.rules.specs.Laws.Refusals.{includes-numbered, expansion-numbered}
 
 -- THE SHEET THAT IS LEFT keeps the layout.
-let-good : (s : Records) (t : List ℕ) (x : Option Value) → resolve s t ≡ x → goodRecords s word 6 ≡ true → all ascii t ≡ true → goodValue (letValue t x) 6 ≡ true
+pub let-good : (s : Records) (t : List ℕ) (x : Option Value) → resolve s t ≡ x → goodRecords s word 6 ≡ true → all ascii t ≡ true → goodValue (letValue t x) 6 ≡ true
 unfolding letValue goodValue
 let-good s t none q h e = e
 let-good s t (some w) q h e = resolve-good s word 6 t w h q
