@@ -5,9 +5,9 @@ use mathlib.Core.Bool.{Bool, true, false, not, _&&_, _||_, true≢false, and-fal
 use mathlib.Core.Option.{Option, none, some}
 use Prim.Native.Nat.{ℕ, zero, suc, _+_, _-_, _*_, _/_, _%_, _^_, _≤_, _<_}
 use native.Mathlib.Omega.{arith}
-use native.Mathlib.Nat.{mod-lt, zero-mul, one-mul}
+use native.Mathlib.Nat.{mod-lt, mod-eq-of-lt, zero-mul, one-mul}
 use lib.Pow.{pow-pos}
-use lib.Bits.{bitAnd, and-high}
+use lib.Bits.{bitAnd, and-high, and-mask}
 use lib.Dec.{eqb, ltb, leb}
 use lib.ListN.{length, take, drop, getD, drop-of-length-le, length-drop, length-take}
 use lib.Seq.{drop-drop, length-take-le}
@@ -115,6 +115,14 @@ mask-bit k m = rw (and-high m 1 k) (go (m / 2 ^ k % 2) (mod-lt (m / 2 ^ k) (omeg
     go zero h = rw zero-mul
     go (suc zero) h = rw (one-mul, ne-eqb (2 ^ k) 0 (λ e. absurd (omega (arith, pow-pos k))))
     go (suc (suc d)) h = absurd (omega arith)
+
+-- A map byte holds only the lowest k bits.
+pub mask-low : (k m : ℕ) → eqb (bitAnd m (2 ^ k - 1)) m ≡ ltb m (2 ^ k)
+mask-low k m = rw (and-mask m k) (go (ltb m (2 ^ k)) refl)
+  where
+    go : (c : Bool) → ltb m (2 ^ k) ≡ c → eqb (m % 2 ^ k) m ≡ c
+    go true h = eq-eqb (m % 2 ^ k) m (mod-eq-of-lt (ltb-true m (2 ^ k) h))
+    go false h = ne-eqb (m % 2 ^ k) m (λ e. absurd (omega (arith, ltb-false m (2 ^ k) h, mod-lt m (pow-pos k))))
 
 -- Up to the first `/` is all.
 pub slash-free : (t : List ℕ) (r : ℕ) → Spans (but "/") t 0 r → eqb r (length t) ≡ not (holds "/" t)
@@ -235,19 +243,11 @@ module _ (b : List ℕ) (i : ℕ) where
     unfolding entry entryFields _>>=_ bind
     entry-map = rw (byte-at b i k)
 
-    pub entry-no-map : {s : Bool} → s ≡ bit 1 (getD b i 0) → {h : Head} → (leb 8 (getD b i 0) || not s) ≡ true → h ≡ noHead → HeadAt b (entry (length b)) i h
-    unfolding _>>_ bind require broken
-    entry-no-map {s} e t q = no-head (entry-map ∙ rw (or-elim (leb 8 (getD b i 0)) (not s) t big unnamed)) q
-      where
-        big : leb 8 (getD b i 0) ≡ true → (ltb (getD b i 0) 8 && bit 1 (getD b i 0)) ≡ false
-        big z = rw (le-ltb (getD b i 0) 8 (leb-true 8 (getD b i 0) z))
+    module _ {s : Bool} (e : s ≡ (ltb (getD b i 0) 8 && bit 1 (getD b i 0))) where
+      pub entry-no-map : s ≡ false → {h : Head} → h ≡ noHead → HeadAt b (entry (length b)) i h
+      unfolding _>>_ bind require broken
+      entry-no-map t q = no-head (entry-map ∙ rw (sym e ∙ t)) q
 
-        unnamed : not s ≡ true → (ltb (getD b i 0) 8 && bit 1 (getD b i 0)) ≡ false
-        unnamed z = rw (sym e ∙ not-true s z) (and-false (ltb (getD b i 0) 8))
-
-    pub entry-fields : {s : Bool} → s ≡ bit 1 (getD b i 0) → {h : Head} → (leb 8 (getD b i 0) || not s) ≡ false → HeadAt b (entryFields (length b) (getD b i 0)) (i + 1) h → HeadAt b (entry (length b)) i h
-    unfolding _>>_ bind require pure
-    entry-fields {s} e t H =
-        let x = leb-false 8 (getD b i 0) (or-false-l (leb 8 (getD b i 0)) (not s) t) in
-        let y = not-false s (or-false-r (leb 8 (getD b i 0)) (not s) t) in
-        record { reads = entry-map ∙ rw (lt-ltb (getD b i 0) 8 x, sym e ∙ y) (H .reads); folders = H .folders; names = H .names; inside = H .inside }
+      pub entry-fields : s ≡ true → {h : Head} → HeadAt b (entryFields (length b) (getD b i 0)) (i + 1) h → HeadAt b (entry (length b)) i h
+      unfolding _>>_ bind require pure
+      entry-fields t H = record { reads = entry-map ∙ rw (sym e ∙ t) (H .reads); folders = H .folders; names = H .names; inside = H .inside }

@@ -2,7 +2,8 @@
 ghost use mathlib.Core.Path.{_≡_};
 ghost use Prim.Native.Nat.{_+_, _*_, _≤_, _<_};
 ghost use lib.ListN.{length, getD};
-ghost use mathlib.Core.Bool.{not};
+ghost use lib.Dec.{ltb};
+ghost use mathlib.Core.Bool.{not, _&&_};
 ghost use Rattle.rules.specs.Layout.{bit, field, fieldIf, byte, word16};
 ghost use Rattle.rules.specs.Bytes.{holds};
 ghost use Rattle.rules.specs.Bundle.{entry};
@@ -15,6 +16,9 @@ const FOLDER: u8 = 1;
 const NAME: u8 = 2;
 
 const CONTENT: u8 = 4;
+
+// What a map byte may hold.
+const FIELDS: u8 = FOLDER | NAME | CONTENT;
 
 // A byte as a number.
 fn wide(x: u8) -> usize
@@ -125,6 +129,13 @@ fn has_content(m: u8) -> bool
     m & CONTENT != 0
 }
 
+// Does the map byte hold only bits of fields, and that of a file name?
+fn allowed(m: u8) -> bool
+    ensures { λ r. ⌜ r ≡ (ltb m 8 && bit 1 m) ⌝ }
+{
+    (m & FIELDS == m) & has_name(m)
+}
+
 // Is the text free of `/`?
 fn without_slash(text: &[u8]) -> bool
     ensures { λ r. ⌜ r ≡ not (holds "/" (now (text .entry))) ⌝ }
@@ -212,7 +223,7 @@ pub fn entry_at(b: &[u8], at: usize) -> Head
         return no_head();
     }
     let m = b[at];
-    if (8 <= m) | !has_name(m) {
+    if !allowed(m) {
         return no_head();
     }
     fields(b, at + 1, m)

@@ -3,9 +3,10 @@ use Rattle.bundle.proofs.entries.entry_at.Statement.{statement}
 use Rattle.bundle.proofs.entries.entry_at.Tie as tie
 use Rattle.bundle.proofs.entries.entry_at.Reads as reads
 use Rattle.bundle.proofs.entries.entry_at.Lts as lts
+use Rattle.bundle.proofs.entries.allowed.Reads as allowed-reads
 use Rattle.bundle.proofs.entries.fields.Reads as fields-reads
-use Rattle.bundle.proofs.entries.has_name.Reads as has-name-reads
 use Rattle.bundle.proofs.entries.no_head.Reads as no-head-reads
+use borrow.Author.Tests.{not-true, not-false}
 use Rattle.bundle.specs.Entries.{entry-end, entry-no-map, entry-fields}
 
 no-head-requires : tie.Need-no-head-requires
@@ -17,14 +18,14 @@ returns c = entry-end _ _ (search needs) (c .no-head .ensures)
 shared-slice-read-m : tie.Need-shared-slice-read-m
 shared-slice-read-m c = search needs
 
-has-name-requires : tie.Need-has-name-requires
-has-name-requires c κs = search needs
+allowed-requires : tie.Need-allowed-requires
+allowed-requires c κs = search needs
 
 no-head-requires-2 : tie.Need-no-head-requires-2
 no-head-requires-2 c κs = search needs
 
 returns-2 : tie.Need-returns-2
-returns-2 c = entry-no-map _ _ (search needs) (c .before .before .has-name .ensures) (c .before .if2 .taken) (c .no-head2 .ensures)
+returns-2 c = entry-no-map _ _ (search needs) (c .before .before .allowed .ensures) (not-true _ (c .before .if2 .taken)) (c .no-head2 .ensures)
 
 add-fields : tie.Need-add-fields
 add-fields c = search needs
@@ -33,7 +34,7 @@ fields-requires : tie.Need-fields-requires
 fields-requires c κs = search needs
 
 returns-3 : tie.Need-returns-3
-returns-3 c = entry-fields _ _ (search needs) (c .before .before .has-name .ensures) (c .before .if2 .left) (c .fields .ensures)
+returns-3 c = entry-fields _ _ (search needs) (c .before .before .allowed .ensures) (not-false _ (c .before .if2 .left)) (c .fields .ensures)
 
 pub entry-at-spec : {M : Type 1} → statement M
 entry-at-spec =
@@ -42,7 +43,7 @@ entry-at-spec =
     no-head-requires
     returns
     shared-slice-read-m
-    has-name-requires
+    allowed-requires
     no-head-requires-2
     returns-2
     add-fields
