@@ -18,27 +18,38 @@ use Rattle.rules.specs.Files.{View}
 use Rattle.rules.specs.Includes.{includeStep, copyByte, commented}
 use Rattle.rules.specs.Laws.Bool.{and-l, and-r, and-i}
 use Rattle.rules.specs.Laws.Enough.{run-step}
-use Rattle.scan.specs.Sets.{Spans, Starts, notByte}
-use Rattle.scan.specs.Laws.{but-yes, mark-of}
+use Rattle.scan.specs.Sets.{Spans, Starts, Stands, notByte}
+use Rattle.scan.specs.Laws.{but-yes, mark-of, stands}
 use Rattle.scan.specs.Stretches.{spans-each}
+use Rattle.includes.specs.declared.marks.Mark.{Mark}
+use Rattle.includes.specs.declared.marks.Mark.the-variants.{Include, SourceInclude}
+use Rattle.includes.specs.declared.marks.Found.{Found}
+use Rattle.includes.specs.declared.marks.Found.the-variants.{Mark as Marked, Nothing}
 use Rattle.buffers.specs.Emits.{guarded-emitted}
 use Rattle.buffers.specs.Copies.{afterAll, copied, copied-part}
 
--- The length of the mark at the start of a text; 0 where none stands there.
-unfoldable pub markLength : List ℕ → ℕ
-markLength t = elim (prefix (bytes "#include") t) [ true ↦ 8 | false ↦ elim (prefix (bytes "#source-include") t) [ true ↦ 15 | false ↦ 0 ] ]
+-- A mark's bytes, and the mark that a text starts with.
+abbrev pub markText : Mark → List ℕ
+markText Include = bytes "#include"
+markText SourceInclude = bytes "#source-include"
+
+unfoldable pub markAt : List ℕ → Found
+markAt t = elim (prefix (markText Include) t) [ true ↦ Marked Include | false ↦ elim (prefix (markText SourceInclude) t) [ true ↦ Marked SourceInclude | false ↦ Nothing ] ]
+
+abbrev pub IsMark : Mark → List ℕ → Type 0
+IsMark m t = Marked m ≡ markAt t
 
 -- From i to j no mark stands.
 pub record Unmarked (t : List ℕ) (i j : ℕ) : Type 0 where
   pub on : i ≤ j
   pub inside : j ≤ length t
-  pub none : (k : ℕ) → i ≤ k → k < j → markLength (drop k t) ≡ 0
+  pub none : (k : ℕ) → i ≤ k → k < j → markAt (drop k t) ≡ Nothing
 
--- The next mark from i on stands at j and has n bytes; without one j is the end and n is 0.
-pub record NextMark (t : List ℕ) (i j n : ℕ) : Type 0 where
+-- The next mark from i on stands at j; without one j is the end.
+pub record NextMark (t : List ℕ) (i j : ℕ) (f : Found) : Type 0 where
   pub before : Unmarked t i j
-  pub there : n ≡ markLength (drop j t)
-  pub last : n ≡ 0 → j ≡ length t
+  pub there : f ≡ markAt (drop j t)
+  pub last : f ≡ Nothing → j ≡ length t
 
 -- The stretch behind h and a byte that is copied; and behind h and the bytes of a text.
 unfoldable pub stretchOn : List ℕ → ℕ → List ℕ
@@ -48,20 +59,29 @@ abbrev pub stretch : List ℕ → List ℕ → List ℕ
 stretch = afterAll stretchOn
 
 -- COPYING.
-no-mark : (t : List ℕ) (a b : Bool) → prefix (bytes "#include") t ≡ a → prefix (bytes "#source-include") t ≡ b → markLength t ≡ 0 → (a ≡ false) × (b ≡ false)
-unfolding markLength
-no-mark t true b p q h = absurd (omega (arith, (rw (p, markLength) at h)))
-no-mark t false true p q h = absurd (omega (arith, (rw (p, q, markLength) at h)))
+marked-no : {m : Mark} {f : Found} {P : Type 0} → Marked m ≡ f → f ≡ Nothing → P
+marked-no h k = let z : _≡_ {A = ℕ} 0 1 = cc in absurd (omega arith)
+
+other-mark : {m : Mark} {P : Type 0} → m ≡ Include → m ≡ SourceInclude → P
+other-mark h k = let z : _≡_ {A = ℕ} 0 1 = cc in absurd (omega arith)
+
+same-mark : {m n : Mark} {f : Found} → Marked m ≡ f → f ≡ Marked n → m ≡ n
+same-mark h k = cc
+
+no-mark : (t : List ℕ) (a b : Bool) → prefix (markText Include) t ≡ a → prefix (markText SourceInclude) t ≡ b → markAt t ≡ Nothing → (a ≡ false) × (b ≡ false)
+unfolding markAt
+no-mark t true b p q h = marked-no {m = Include} (rw (p, markAt) refl) h
+no-mark t false true p q h = marked-no {m = SourceInclude} (rw (p, q, markAt) refl) h
 no-mark t false false p q h = (refl, refl)
 
 module _ (v : View) (inside : List ℕ → List ℕ → Emit) (g : List ℕ) where
-  copy-step : (h t : List ℕ) → markLength t ≡ 0 → includeStep v inside g h t ≡ copyByte h t
+  copy-step : (h t : List ℕ) → markAt t ≡ Nothing → includeStep v inside g h t ≡ copyByte h t
   unfolding includeStep _>>=_ ifR
   copy-step h t m =
-      let n = no-mark t (prefix (bytes "#include") t) (prefix (bytes "#source-include") t) refl refl m in
-      rw (mark-of (bytes "#include") t false (n .0), mark-of (bytes "#source-include") t false (n .1)) refl
+      let n = no-mark t (prefix (markText Include) t) (prefix (markText SourceInclude) t) refl refl m in
+      rw (mark-of (markText Include) t false (n .0), mark-of (markText SourceInclude) t false (n .1)) refl
 
-  copies-at : (t h : List ℕ) (k : ℕ) → k < length t → markLength (drop k t) ≡ 0 → includeStep v inside g h (drop k t) ≡ (copied stretchOn h (getD t k 0), drop (suc k) t)
+  copies-at : (t h : List ℕ) (k : ℕ) → k < length t → markAt (drop k t) ≡ Nothing → includeStep v inside g h (drop k t) ≡ (copied stretchOn h (getD t k 0), drop (suc k) t)
   unfolding copyByte copied stretchOn
   copies-at t h k l m = copy-step h (drop k t) m ∙ rw (drop-cons t k 0 l) refl
 
@@ -84,56 +104,81 @@ module _ (v : View) (inside : List ℕ → List ℕ → Emit) (g : List ℕ) whe
 no-hash : (x : ℕ) → notByte 35 x ≡ true → eqb 35 x ≡ false
 no-hash x h = ne-eqb 35 x (λ e. absurd (true≢false (sym h ∙ ap (λ z. not (eqb z 35)) (sym e))))
 
-other-byte : (x : ℕ) (xs : List ℕ) → notByte 35 x ≡ true → markLength (x ∷ xs) ≡ 0
-unfolding markLength
-other-byte x xs h = rw (first (bytes "include"), first (bytes "source-include"), markLength) refl
+other-byte : (x : ℕ) (xs : List ℕ) → notByte 35 x ≡ true → markAt (x ∷ xs) ≡ Nothing
+unfolding markAt
+other-byte x xs h = rw (first (bytes "include"), first (bytes "source-include"), markAt) refl
   where
     first : (m : List ℕ) → prefix (35 ∷ m) (x ∷ xs) ≡ false
     first m = unfold prefix in (rw (no-hash x h) refl)
 
-at-end : markLength [] ≡ 0
-unfolding markLength prefix
+at-end : markAt [] ≡ Nothing
+unfolding markAt prefix
 at-end = refl
 
 module _ {t : List ℕ} {from i j : ℕ} (u : Unmarked t from i) (s : Spans (notByte 35) t i j) where
   pub unmarked-on : Unmarked t from j
   unmarked-on = record { on = omega (arith, u .on, s .on); inside = s .inside; none = λ k a b. at k a b (decLe i k) }
     where
-      at : (k : ℕ) → from ≤ k → k < j → Dec (i ≤ k) → markLength (drop k t) ≡ 0
+      at : (k : ℕ) → from ≤ k → k < j → Dec (i ≤ k) → markAt (drop k t) ≡ Nothing
       at k a b (yes h) = rw (drop-cons t k 0 (omega (arith, s .inside))) (other-byte (getD t k 0) (drop (suc k) t) (spans-each s k h b))
       at k a b (no h) = u .none k a (omega arith)
 
-  pub mark-last : length t ≤ j → NextMark t from j 0
-  mark-last h = record { before = unmarked-on; there = sym (ap markLength (drop-of-length-le t h) ∙ at-end); last = λ z. omega (arith, s .inside) }
+  pub mark-last : length t ≤ j → NextMark t from j Nothing
+  mark-last h = record { before = unmarked-on; there = sym (ap markAt (drop-of-length-le t h) ∙ at-end); last = λ z. omega (arith, s .inside) }
 
-  module _ {n : ℕ} (m : n ≡ markLength (drop j t)) (h : j < length t) where
-    pub mark-found : (n ≡ 0 → ⊥) → NextMark t from j n
-    mark-found z = record { before = unmarked-on; there = m; last = λ y. absurd (z y) }
+  module _ {f : Found} (m : f ≡ markAt (drop j t)) (h : j < length t) where
+    pub mark-found : {x : Mark} → f ≡ Marked x → NextMark t from j f
+    mark-found z = record { before = unmarked-on; there = m; last = λ y. marked-no (sym z) y }
 
-    pub mark-again : n ≡ 0 → Unmarked t from (j + 1)
+    pub mark-again : f ≡ Nothing → Unmarked t from (j + 1)
     mark-again z = record { on = omega (arith, unmarked-on .on); inside = omega arith; none = λ k a b. at k a b (decLe j k) }
       where
-        at : (k : ℕ) → from ≤ k → k < j + 1 → Dec (j ≤ k) → markLength (drop k t) ≡ 0
-        at k a b (yes y) = let e : k ≡ j = omega arith in ap (λ x. markLength (drop x t)) e ∙ sym m ∙ z
+        at : (k : ℕ) → from ≤ k → k < j + 1 → Dec (j ≤ k) → markAt (drop k t) ≡ Nothing
+        at k a b (yes y) = let e : k ≡ j = omega arith in ap (λ x. markAt (drop x t)) e ∙ sym m ∙ z
         at k a b (no y) = unmarked-on .none k a (omega arith)
 
 pub unmarked-start : (t : List ℕ) (i : ℕ) → i ≤ length t → Unmarked t i i
 unmarked-start t i h = record { on = omega arith; inside = h; none = λ k a b. absurd (omega arith) }
 
 -- What the tests for the two marks say.
-module _ {t : List ℕ} {i : ℕ} {a : Bool} (s : Starts (bytes "#include") t i a) where
-  pub length-include : a ≡ true → 8 ≡ markLength (drop i t)
-  unfolding markLength
-  length-include h = rw (s .says ∙ h, markLength)
+module _ {t : List ℕ} {i : ℕ} {a : Bool} (s : Starts (markText Include) t i a) where
+  pub at-include : a ≡ true → IsMark Include (drop i t)
+  unfolding markAt
+  at-include h = rw (s .says ∙ h, markAt)
 
-  module _ {c : Bool} (k : a ≡ false) (r : Starts (bytes "#source-include") t i c) where
-    pub length-source : c ≡ true → 15 ≡ markLength (drop i t)
-    unfolding markLength
-    length-source h = rw (s .says ∙ k, r .says ∙ h, markLength)
+  module _ {c : Bool} (k : a ≡ false) (r : Starts (markText SourceInclude) t i c) where
+    pub at-source : c ≡ true → IsMark SourceInclude (drop i t)
+    unfolding markAt
+    at-source h = rw (s .says ∙ k, r .says ∙ h, markAt)
 
-    pub length-none : c ≡ false → 0 ≡ markLength (drop i t)
-    unfolding markLength
-    length-none h = rw (s .says ∙ k, r .says ∙ h, markLength)
+    pub at-none : c ≡ false → Nothing ≡ markAt (drop i t)
+    unfolding markAt
+    at-none h = rw (s .says ∙ k, r .says ∙ h, markAt)
+
+-- What a mark says of the tests.
+module _ (u : List ℕ) where
+  mark-tests : (a b : Bool) → prefix (markText Include) u ≡ a → prefix (markText SourceInclude) u ≡ b → {m : Mark} → IsMark m u → (prefix (markText m) u ≡ true) × (m ≡ SourceInclude → prefix (markText Include) u ≡ false)
+  unfolding markAt
+  mark-tests true b p q {m} e = let z : m ≡ Include = same-mark e (rw (p, markAt) refl) in (rw z p, λ h. other-mark z h)
+  mark-tests false true p q {m} e = let z : m ≡ SourceInclude = same-mark e (rw (p, q, markAt) refl) in (rw z q, λ h. p)
+  mark-tests false false p q {m} e = marked-no e (rw (p, q, markAt) refl)
+
+  pub mark-is : {m : Mark} → IsMark m u → prefix (markText m) u ≡ true
+  mark-is e = mark-tests (prefix (markText Include) u) (prefix (markText SourceInclude) u) refl refl e .0
+
+  pub mark-first : IsMark SourceInclude u → prefix (markText Include) u ≡ false
+  mark-first e = mark-tests (prefix (markText Include) u) (prefix (markText SourceInclude) u) refl refl e .1 refl
+
+pub mark-stands : (t : List ℕ) (at : ℕ) → at ≤ length t → {m : Mark} → IsMark m (drop at t) → Stands (markText m) t at (at + length (markText m))
+mark-stands t at l {m} e = stands (markText m) t at l (mark-is (drop at t) e)
+
+-- The mark x, whose length is n.
+pub mark-behind : (t : List ℕ) (at : ℕ) → at ≤ length t → {m x : Mark} → IsMark m (drop at t) → {n : ℕ} → n ≡ length (markText m) → m ≡ x → Stands (markText x) t at (at + n)
+mark-behind t at l e z h = rw (z, h) (mark-stands t at l (rw h at e))
+
+pub mark-some : (m : Mark) → 0 < length (markText m)
+mark-some Include = omega arith
+mark-some SourceInclude = omega arith
 
 -- THE STRETCH before a mark, of a text that is copied from `from` on.
 -- Where it begins.

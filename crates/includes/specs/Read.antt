@@ -22,23 +22,25 @@ use Rattle.includes.specs.declared.ahead.Ahead.{Ahead}
 use Rattle.includes.specs.declared.ahead.Known.{Known}
 use Rattle.includes.specs.declared.ahead.Pair.{Pair}
 use Rattle.includes.specs.declared.read.Reading.{Reading}
-use Rattle.includes.specs.declared.read.Reading.the-variants.{Copied, Include, Source as Shown}
+use Rattle.includes.specs.declared.read.Reading.the-variants.{Copied, Include as Included, Source as Shown}
 use Rattle.includes.specs.declared.read.Read.{Read}
 use Rattle.includes.specs.declared.read.Behind.{Behind}
 use Rattle.includes.specs.Ahead.{Knows, KnowsAll, Quotes, knows-new, sees-stop, sees-none}
 use Rattle.scan.specs.Stretches.{spans-but}
-use Rattle.includes.specs.Marks.{markLength, stretch}
+use Rattle.includes.specs.declared.marks.Mark.{Mark}
+use Rattle.includes.specs.declared.marks.Mark.the-variants.{Include, SourceInclude}
+use Rattle.includes.specs.Marks.{markText, IsMark, mark-is, mark-first, mark-stands, stretch}
 
 -- What is written for what was read. g: the current folder, t: the text.
 unfoldable pub emitOf : View → (List ℕ → List ℕ → Emit) → List ℕ → List ℕ → Reading → Emit
 emitOf v inside g t (Copied a b) = put (part t a b) ok
-emitOf v inside g t (Include a b) = let q = join g (part t a b) in included v inside g q (fetch v q)
+emitOf v inside g t (Included a b) = let q = join g (part t a b) in included v inside g q (fetch v q)
 emitOf v inside g t (Shown a b c d) = fenced (part t c d) (opened v (join (projectRoot v g) (part t a b)))
 
 -- The parts lie in the text.
 unfoldable pub Within : List ℕ → Reading → Type 0
 Within t (Copied a b) = (a ≤ b) × (b ≤ length t)
-Within t (Include a b) = (a ≤ b) × (b ≤ length t)
+Within t (Included a b) = (a ≤ b) × (b ≤ length t)
 Within t (Shown a b c d) = (a ≤ b) × (b ≤ length t) × (c ≤ d) × (d ≤ length t)
 
 -- The step m at the place i is what was read; reading goes on from j or later.
@@ -94,7 +96,7 @@ module _ {t : List ℕ} {at behind : ℕ} (st : Stands (bytes "#include") t at b
       does : (v : View) (f : List ℕ → List ℕ → Emit) (g : List ℕ) → includeMark v f g (drop behind t) ≡ (wrote false (put (part t at behind) ok), drop behind t)
       does v f g = rw (s .says, h, st .text) refl
 
-  pub include-some : q .found ≡ true → {path : Range} → Trims t (q .from) (q .to) path → {z : Known} → z ≡ knownPair k q → Reads includeMark t behind behind (record { what = Include (path .from) (path .to); whole = true; next = q .to + 1; known = z })
+  pub include-some : q .found ≡ true → {path : Range} → Trims t (q .from) (q .to) path → {z : Known} → z ≡ knownPair k q → Reads includeMark t behind behind (record { what = Included (path .from) (path .to); whole = true; next = q .to + 1; known = z })
   unfolding emitOf Within includeMark includeOf quotedIf
   include-some h {path} p e = record {
     on = omega (arith, s .on, s .order);
@@ -201,91 +203,42 @@ module _ {t : List ℕ} {behind : ℕ} {q : Pair} (a : HasPath t behind q) {k : 
       does v f g true h = rw (arguments, h, b .wholes, b .rest, p .text) refl
       does v f g false h = let z : l .to - l .from ≡ 0 = omega (arith, u .none h) in rw (arguments, h, b .rest, p .text, z) refl
 
--- THE MARK. What its length says.
-module _ (u : List ℕ) {n : ℕ} (e : n ≡ markLength u) where
-  pub is-include : n ≡ 8 → prefix (bytes "#include") u ≡ true
-  unfolding markLength
-  is-include h = at (prefix (bytes "#include") u) (prefix (bytes "#source-include") u) refl refl
-    where
-      at : (a b : Bool) → prefix (bytes "#include") u ≡ a → prefix (bytes "#source-include") u ≡ b → prefix (bytes "#include") u ≡ true
-      at true b p q = p
-      at false true p q = let z : n ≡ 15 = e ∙ rw (p, q, markLength) refl in absurd (omega arith)
-      at false false p q = let z : n ≡ 0 = e ∙ rw (p, q, markLength) refl in absurd (omega arith)
+-- THE MARK, commented or not.
+-- What a step does behind the mark, unless it is commented.
+abbrev pub markStep : Mark → View → (List ℕ → List ℕ → Emit) → List ℕ → Reader (Did (List ℕ))
+markStep Include = includeMark
+markStep SourceInclude = sourceMark
 
-  pub is-source : 0 < n → (n ≡ 8 → ⊥) → (prefix (bytes "#include") u ≡ false) × (prefix (bytes "#source-include") u ≡ true) × (n ≡ 15)
-  unfolding markLength
-  is-source k h = at (prefix (bytes "#include") u) (prefix (bytes "#source-include") u) refl refl
-    where
-      at : (a b : Bool) → prefix (bytes "#include") u ≡ a → prefix (bytes "#source-include") u ≡ b → (prefix (bytes "#include") u ≡ false) × (prefix (bytes "#source-include") u ≡ true) × (n ≡ 15)
-      at true b p q = let z : n ≡ 8 = e ∙ rw (p, markLength) refl in absurd (h z)
-      at false true p q = (p, q, e ∙ rw (p, q, markLength) refl)
-      at false false p q = let z : n ≡ 0 = e ∙ rw (p, q, markLength) refl in absurd (omega arith)
-
-pub mark-inside : (t : List ℕ) (at n : ℕ) → at ≤ length t → n ≡ markLength (drop at t) → 0 < n → at + n ≤ length t
-mark-inside t at n l e z = go (eqb n 8) refl
-  where
-    go : (b : Bool) → eqb n 8 ≡ b → at + n ≤ length t
-    go true q = let h = eqb-true n 8 q in omega (arith, stands (bytes "#include") t at l (is-include (drop at t) e h) .inside)
-    go false q = let h = is-source (drop at t) e z (eqb-false n 8 q) in omega (arith, h .2, stands (bytes "#source-include") t at l (h .1) .inside)
-
--- Either mark, commented or taken: c says whether it is commented.
 module _ (t : List ℕ) (from at : ℕ) {c : Bool} (y : c ≡ commented (stretch [] (part t from at))) where
   abbrev Step : View → (List ℕ → List ℕ → Emit) → List ℕ → Reader (Did (List ℕ))
   Step = λ v f g. includeStep v f g (stretch [] (part t from at))
 
-  step-include : prefix (bytes "#include") (drop at t) ≡ true → (v : View) (f : List ℕ → List ℕ → Emit) (g : List ℕ) → Step v f g (drop at t) ≡ ifR c (ret (copied (bytes "#include"))) (includeMark v f g) (drop (at + 8) t)
+  step-at : (m : Mark) → IsMark m (drop at t) → (v : View) (f : List ℕ → List ℕ → Emit) (g : List ℕ) → Step v f g (drop at t) ≡ ifR c (ret (copied (markText m))) (markStep m v f g) (drop (at + length (markText m)) t)
   unfolding includeStep _>>=_ ifR
-  step-include h v f g = rw (mark-of (bytes "#include") (drop at t) true h, drop-drop 8 at t, sym y) refl
+  step-at Include e v f g = rw (mark-of (bytes "#include") (drop at t) true (mark-is (drop at t) e), drop-drop 8 at t, sym y) refl
+  step-at SourceInclude e v f g = rw (mark-of (bytes "#include") (drop at t) false (mark-first (drop at t) e), mark-of (bytes "#source-include") (drop at t) true (mark-is (drop at t) e), drop-drop 15 at t, sym y) refl
 
-  step-source : prefix (bytes "#include") (drop at t) ≡ false → prefix (bytes "#source-include") (drop at t) ≡ true → (v : View) (f : List ℕ → List ℕ → Emit) (g : List ℕ) →
-      Step v f g (drop at t) ≡ ifR c (ret (copied (bytes "#source-include"))) (sourceMark v f g) (drop (at + 15) t)
-  unfolding includeStep _>>=_ ifR
-  step-source i h v f g = rw (mark-of (bytes "#include") (drop at t) false i, mark-of (bytes "#source-include") (drop at t) true h, drop-drop 15 at t, sym y) refl
-
-  -- A mark m of the text, by what the step does behind it.
-  module _ (m : List ℕ) (st : Stands m t at (at + length m)) (q : View → (List ℕ → List ℕ → Emit) → List ℕ → Reader (Did (List ℕ)))
-      (d : (v : View) (f : List ℕ → List ℕ → Emit) (g : List ℕ) → Step v f g (drop at t) ≡ ifR c (ret (copied m)) (q v f g) (drop (at + length m) t)) where
-    step-commented : c ≡ true → {k : Known} → KnowsAll t k → Reads Step t at (at + length m) (copiedRead at (at + length m) true k)
+  module _ (l : at ≤ length t) {m : Mark} (e : IsMark m (drop at t)) {n : ℕ} (z : n ≡ length (markText m)) where
+    pub read-commented : c ≡ true → {k : Known} → KnowsAll t k → Reads Step t at (at + length (markText m)) (copiedRead at (at + n) true k)
     unfolding emitOf Within copied ifR ret
-    step-commented h w = record {
-      on = omega arith;
-      inside = st .inside;
-      parts = (st .on, st .inside);
-      does = λ v f g. d v f g ∙ rw (h, st .text) refl;
-      knows = w;
-    }
+    read-commented h w =
+        let st = mark-stands t at l e in
+        rw z (record {
+          on = omega arith;
+          inside = st .inside;
+          parts = (st .on, st .inside);
+          does = λ v f g. step-at m e v f g ∙ rw (h, st .text) refl;
+          knows = w;
+        })
 
-    step-taken : c ≡ false → {r : Read} → Reads q t (at + length m) (at + length m) r → Reads Step t at (at + length m) r
+    pub read-taken : c ≡ false → {r : Read} → Reads (markStep m) t (at + n) (at + n) r → Reads Step t at (at + length (markText m)) r
     unfolding ifR
-    step-taken h r = record {
-      on = r .on;
-      inside = r .inside;
-      parts = r .parts;
-      does = λ v f g. d v f g ∙ rw h (r .does v f g);
-      knows = r .knows;
-    }
-
-  module _ (l : at ≤ length t) {n : ℕ} (e : n ≡ markLength (drop at t)) where
-    pub stands-include : n ≡ 8 → Stands (bytes "#include") t at (at + n)
-    stands-include h = rw h (stands (bytes "#include") t at l (is-include (drop at t) e h))
-
-    pub stands-source : 0 < n → (n ≡ 8 → ⊥) → Stands (bytes "#source-include") t at (at + n)
-    stands-source z h = let s = is-source (drop at t) e z h in rw (s .2) (stands (bytes "#source-include") t at l (s .1))
-
-    pub read-include : c ≡ false → n ≡ 8 → {r : Read} → Reads includeMark t (at + n) (at + n) r → Reads Step t at (at + n) r
-    read-include x h r = rw h (step-taken (bytes "#include") (rw h at (stands-include h)) includeMark (step-include (is-include (drop at t) e h)) x (rw h at r))
-
-    pub read-source : c ≡ false → 0 < n → (n ≡ 8 → ⊥) → {r : Read} → Reads sourceMark t (at + n) (at + n) r → Reads Step t at (at + n) r
-    read-source x z h r =
-        let s = is-source (drop at t) e z h in
-        rw (s .2) (step-taken (bytes "#source-include") (rw (s .2) at (stands-source z h)) sourceMark (step-source (s .0) (s .1)) x (rw (s .2) at r))
-
-    pub read-commented : c ≡ true → 0 < n → {k : Known} → KnowsAll t k → Reads Step t at (at + n) (copiedRead at (at + n) true k)
-    read-commented x z {k} w = go (eqb n 8) refl
-      where
-        go : (b : Bool) → eqb n 8 ≡ b → Reads Step t at (at + n) (copiedRead at (at + n) true k)
-        go true q = let h = eqb-true n 8 q in rw h (step-commented (bytes "#include") (rw h at (stands-include h)) includeMark (step-include (is-include (drop at t) e h)) x w)
-        go false q =
-            let h = eqb-false n 8 q in
-            let s = is-source (drop at t) e z h in
-            rw (s .2) (step-commented (bytes "#source-include") (rw (s .2) at (stands-source z h)) sourceMark (step-source (s .0) (s .1)) x w)
+    read-taken h k =
+        let r = rw z at k in
+        record {
+          on = r .on;
+          inside = r .inside;
+          parts = r .parts;
+          does = λ v f g. step-at m e v f g ∙ rw h (r .does v f g);
+          knows = r .knows;
+        }

@@ -6,7 +6,7 @@ use Prim.Native.Nat.{ℕ, zero, suc, _+_, _-_, _≤_, _<_}
 use native.Mathlib.Omega.{arith}
 use lib.Dec.{leb}
 use borrow.Author.Tests.{le-leb, lt-leb}
-use lib.ListN.{length, take, drop, drop-of-length-le}
+use lib.ListN.{length, take, drop, replicate, drop-of-length-le}
 use Rattle.rules.specs.Answer.{Answer, refused}
 use Rattle.rules.specs.Reader.{bytes}
 use Rattle.rules.specs.Run.{Emit, ok, put, andThen, unrefused, Trace, step, run, emitted, allWhole, write}
@@ -19,21 +19,38 @@ use Rattle.rules.specs.Laws.Enough.{run-at}
 use Rattle.buffers.specs.Put.{Put}
 use Rattle.buffers.specs.Laws.{put-length}
 use Rattle.includes.specs.declared.ahead.Known.{Known}
+use Rattle.includes.specs.declared.marks.Mark.{Mark}
+use Rattle.includes.specs.declared.marks.Found.{Found}
+use Rattle.includes.specs.declared.marks.Found.the-variants.{Nothing}
 use Rattle.includes.specs.declared.files.File.{File}
+use Rattle.includes.specs.declared.files.Written.{Written}
+use Rattle.includes.specs.declared.Outcome.{Outcome}
+use Rattle.includes.specs.declared.Resolved.{Resolved}
 use Rattle.includes.specs.declared.read.Reading.{Reading}
-use Rattle.includes.specs.declared.read.Reading.the-variants.{Copied, Include, Source as Shown}
+use Rattle.includes.specs.declared.read.Reading.the-variants.{Copied, Include as Included, Source as Shown}
 use Rattle.includes.specs.declared.read.Read.{Read}
 use Rattle.buffers.specs.Emits.{Emits, Going, going-start, going-same, going-on, going-no, going-end, emits-put, emits-fail}
 use Rattle.scan.specs.Sets.{part}
 use Rattle.includes.specs.Ahead.{KnowsAll}
-use Rattle.includes.specs.Marks.{NextMark, stretch, plain}
+use Rattle.includes.specs.Marks.{NextMark, markText, mark-some, stretch, plain}
 use Rattle.includes.specs.Read.{emitOf, Within, Reads}
-use Rattle.includes.specs.Files.{OpensFile, EndsLine, emits-line}
+use Rattle.includes.specs.Files.{refusedFile, OpensFile, EndsLine, emits-line}
 
 -- What writing a run's text came to; and is each of its steps whole.
 pub record Resolves (full room : ℕ) (t : Trace (List ℕ)) (b : List ℕ) (p : ℕ) (c : List ℕ) (fine : Bool) (number q : ℕ) (w : Bool) : Type 0 where
   pub emits : Emits full room (emitted t) b p c fine number q
   pub wholes : fine ≡ true → allWhole t ≡ w
+
+-- A text that is refused, and one that is written.
+abbrev pub refusedText : ℕ → ℕ → Resolved
+refusedText k q = record { ok = false; number = k; next = q; whole = false }
+
+abbrev pub finishedText : ℕ → Bool → Resolved
+finishedText q w = record { ok = true; number = 0; next = q; whole = w }
+
+-- What was written, and no file.
+abbrev pub putOnly : Written → Outcome
+putOnly w = record { written = w; file = refusedFile 0 (replicate 255 0) }
 
 -- THE LOOP. v: the bundle; f: how an included file is resolved; g: the folder; t: the text, resolved up to i.
 module _ (v : View) (f : List ℕ → List ℕ → Emit) (g t : List ℕ) where
@@ -55,12 +72,12 @@ module _ (v : View) (f : List ℕ → List ℕ → Emit) (g t : List ℕ) where
   resolving-start {full} {room} {b} {p} h n = record { inside = omega arith; size = refl; place = h; going = going-start full room (emitted Whole) b p h; wholes = refl; knows = n }
 
   module _ {full room : ℕ} {b : List ℕ} {p : ℕ} {c : List ℕ} {i q : ℕ} {w : Bool} {k : Known} (R : Resolving full room b p c i q w k)
-      {j n : ℕ} (M : NextMark t i j n) {d : List ℕ} {r : ℕ} (P : Put room c q (part t i j) d r) where
-    abbrev Mark : Trace (List ℕ)
-    Mark = run (includeStep v f g) (stretch [] (part t i j)) 0 (drop j t)
+      {j : ℕ} {a : Found} (M : NextMark t i j a) {d : List ℕ} {r : ℕ} (P : Put room c q (part t i j) d r) where
+    abbrev FromMark : Trace (List ℕ)
+    FromMark = run (includeStep v f g) (stretch [] (part t i j)) 0 (drop j t)
 
     -- The text before the mark is one piece.
-    before-mark : Going full room (emitted Whole) b p c q (andThen (put (part t i j) ok) (emitted Mark))
+    before-mark : Going full room (emitted Whole) b p c q (andThen (put (part t i j) ok) (emitted FromMark))
     unfolding andThen
     before-mark = going-same (plain v f g [] t i j (M .before) .writes full (room - q)) (R .going)
 
@@ -69,19 +86,19 @@ module _ (v : View) (f : List ℕ → List ℕ → Emit) (g t : List ℕ) where
       emits = record {
         size = put-length P ∙ R .size;
         goes = λ e. absurd (true≢false (sym e));
-        stops = λ e. going-no (put (part t i j) ok) (emitted Mark) before-mark (emits-put {full = full} (R .place) P) (lt-leb r room z);
+        stops = λ e. going-no (put (part t i j) ok) (emitted FromMark) before-mark (emits-put {full = full} (R .place) P) (lt-leb r room z);
       };
       wholes = λ e. absurd (true≢false (sym e));
     }
 
     module _ (z : r ≤ room) where
-      at-mark : Going full room (emitted Whole) b p d r (emitted Mark)
-      at-mark = going-on (put (part t i j) ok) (emitted Mark) before-mark (emits-put {full = full} (R .place) P) (le-leb r room z)
+      at-mark : Going full room (emitted Whole) b p d r (emitted FromMark)
+      at-mark = going-on (put (part t i j) ok) (emitted FromMark) before-mark (emits-put {full = full} (R .place) P) (le-leb r room z)
 
-      whole-mark : allWhole Whole ≡ (w && allWhole Mark)
+      whole-mark : allWhole Whole ≡ (w && allWhole FromMark)
       whole-mark = R .wholes ∙ ap (λ x. w && x) (plain v f g [] t i j (M .before) .wholes)
 
-      pub resolving-end : {y : ℕ} → n ≡ 0 → Resolves full room Whole b p d true y r w
+      pub resolving-end : {y : ℕ} → a ≡ Nothing → Resolves full room Whole b p d true y r w
       unfolding run emitted allWhole
       resolving-end e =
           let s : drop j t ≡ [] = drop-of-length-le t {i = j} (omega (arith, M .last e)) in
@@ -97,23 +114,23 @@ module _ (v : View) (f : List ℕ → List ℕ → Emit) (g t : List ℕ) where
           ended : drop j t ≡ [] → Going full room (emitted Whole) b p d r ok
           ended s = going-same (ap (λ z. write full (room - r) (emitted (run (includeStep v f g) (stretch [] (part t i j)) 0 z))) s) at-mark
 
-          unwhole : drop j t ≡ [] → (w && allWhole Mark) ≡ w
+          unwhole : drop j t ≡ [] → (w && allWhole FromMark) ≡ w
           unwhole s = ap (λ z. w && allWhole (run (includeStep v f g) (stretch [] (part t i j)) 0 z)) s ∙ and-true w
 
       -- The mark is read, and done.
-      module _ {m : Read} (S : Reads (λ v f g. includeStep v f g (stretch [] (part t i j))) t j (j + n) m) (y : 0 < n) {d₂ : List ℕ} {fine : Bool} {o u : ℕ} (E : Emits full room (emitOf v f g t (m .what)) d r d₂ fine o u) where
-        one-step : Mark ≡ step (wrote (m .whole) (emitOf v f g t (m .what))) (Left (m .next))
+      module _ (x : Mark) {m : Read} (S : Reads (λ v f g. includeStep v f g (stretch [] (part t i j))) t j (j + length (markText x)) m) {d₂ : List ℕ} {fine : Bool} {o u : ℕ} (E : Emits full room (emitOf v f g t (m .what)) d r d₂ fine o u) where
+        one-step : FromMark ≡ step (wrote (m .whole) (emitOf v f g t (m .what))) (Left (m .next))
         unfolding wrote
         one-step =
             let e = S .does v f g in
-            run-at (includeStep v f g) t (stretch [] (part t i j)) j (m .next) (omega (arith, S .on)) (S .inside) (ap (λ z. z .1) e)
+            run-at (includeStep v f g) t (stretch [] (part t i j)) j (m .next) (omega (arith, S .on, mark-some x)) (S .inside) (ap (λ z. z .1) e)
             ∙ ap (λ z. step (z .0) (run (includeStep v f g) (z .0 .state) 0 (drop (m .next) t))) e
 
         next-mark : Going full room (emitted Whole) b p d r (andThen (emitOf v f g t (m .what)) (emitted (Left (m .next))))
         unfolding emitted wrote
         next-mark = going-same (ap (λ z. write full (room - r) (emitted z)) one-step) at-mark
 
-        pub resolving-refused : {x : ℕ} {a : Bool} → fine ≡ false → Resolves full room Whole b p d₂ false o x a
+        pub resolving-refused : {y : ℕ} {z : Bool} → fine ≡ false → Resolves full room Whole b p d₂ false o y z
         resolving-refused e = record {
           emits = record {
             size = E .size ∙ put-length P ∙ R .size;
@@ -144,7 +161,7 @@ module _ (t : List ℕ) {r : Reading} (w : Within t r) where
   unfolding Within
   within-copied e = rw e at w
 
-  pub within-include : {a b : ℕ} → r ≡ Include a b → (a ≤ b) × (b ≤ length t)
+  pub within-include : {a b : ℕ} → r ≡ Included a b → (a ≤ b) × (b ≤ length t)
   unfolding Within
   within-include e = rw e at w
 
@@ -152,21 +169,58 @@ module _ (t : List ℕ) {r : Reading} (w : Within t r) where
   unfolding Within
   within-source e = rw e at w
 
-module _ (v : View) (f : List ℕ → List ℕ → Emit) (g t : List ℕ) {r : Reading} {full room : ℕ} {c : List ℕ} {p : ℕ} where
-  pub take-copied : {a b : ℕ} → r ≡ Copied a b → p ≤ room → {d : List ℕ} {q : ℕ} → Put room c p (part t a b) d q → Emits full room (emitOf v f g t r) c p d (leb q room) full q
-  unfolding emitOf
-  take-copied e h s = rw e (emits-put {full = full} h s)
+-- What was read is put; or a file is opened, whose text, resolved with one level fewer, is to be put with a newline behind it.
+pub record Handles (v : View) (levels : ℕ) (g t : List ℕ) (r : Reading) (z : List ℕ) (full room : ℕ) (c : List ℕ) (p : ℕ) (d : List ℕ) (o : Outcome) : Type 0 where
+  pub size : length d ≡ length c
+  pub order : o .file .start ≤ o .file .end
+  pub inside : o .file .end ≤ length z
+  pub short : o .file .parent ≤ length (o .file .bytes)
+  pub puts : o .file .ok ≡ false → Emits full room (emitOf v (insideFile v levels) g t r) c p d (o .written .ok) (o .written .number) (o .written .next)
+  pub left : o .file .ok ≡ true → 0 < levels
+  pub keeps : o .file .ok ≡ true → d ≡ c
+  pub opens : o .file .ok ≡ true → emitOf v (insideFile v levels) g t r ≡ andThen (emitted (run (includeStep v (insideFile v (levels - 1)) (take (o .file .parent) (o .file .bytes))) [] 0 (part z (o .file .start) (o .file .end)))) (put (bytes "\n") ok)
 
-  pub take-source : {a b i j : ℕ} → r ≡ Shown a b i j → {d : List ℕ} {y : Bool} {n q : ℕ} → Emits full room (fenced (part t i j) (opened v (join (projectRoot v g) (part t a b)))) c p d y n q → Emits full room (emitOf v f g t r) c p d y n q
-  unfolding emitOf
-  take-source e s = rw e s
+module _ (v : View) (levels : ℕ) (g t : List ℕ) {r : Reading} (z : List ℕ) {full room : ℕ} {c : List ℕ} {p : ℕ} where
+  -- Put, and no file.
+  handled-put : {d : List ℕ} {y : Bool} {n q : ℕ} → Emits full room (emitOf v (insideFile v levels) g t r) c p d y n q → Handles v levels g t r z full room c p d (putOnly (record { ok = y; number = n; next = q }))
+  handled-put s = record {
+    size = s .size;
+    order = omega arith;
+    inside = omega arith;
+    short = omega arith;
+    puts = λ w. s;
+    left = λ w. absurd (true≢false (sym w));
+    keeps = λ w. absurd (true≢false (sym w));
+    opens = λ w. absurd (true≢false (sym w));
+  }
 
-module _ (v : View) (levels : ℕ) (g t : List ℕ) {r : Reading} {a b : ℕ} (e : r ≡ Include a b) {z : List ℕ} {o : File} (k : OpensFile v levels z (join g (part t a b)) o) {full room : ℕ} {c : List ℕ} {p : ℕ} where
-  pub take-stop : {q : ℕ} → o .ok ≡ false → Emits full room (emitOf v (insideFile v levels) g t r) c p c false (o .number) q
+  pub handled-copied : {a b : ℕ} → r ≡ Copied a b → p ≤ room → {d : List ℕ} {q : ℕ} → Put room c p (part t a b) d q → Handles v levels g t r z full room c p d (putOnly (record { ok = leb q room; number = full; next = q }))
   unfolding emitOf
-  take-stop {q} h = rw (e, k .stops h g) (emits-fail full room c p (o .number) q)
+  handled-copied e h s = handled-put (rw e (emits-put {full = full} h s))
 
-  pub take-include : p ≤ room → o .ok ≡ true → {d : List ℕ} {y : Bool} {n q : ℕ} {x : Bool} → Resolves full room (run (includeStep v (insideFile v (levels - 1)) (take (o .parent) (o .bytes))) [] 0 (part z (o .start) (o .end))) c p d y n q x →
-      {u : List ℕ} {s : Bool} {m i : ℕ} → EndsLine y n full room d q u s m i → Emits full room (emitOf v (insideFile v levels) g t r) c p u s m i
+  pub handled-source : {a b i j : ℕ} → r ≡ Shown a b i j → {d : List ℕ} {w : Written} → Emits full room (fenced (part t i j) (opened v (join (projectRoot v g) (part t a b)))) c p d (w .ok) (w .number) (w .next) → Handles v levels g t r z full room c p d (putOnly w)
   unfolding emitOf
-  take-include i h w n = rw (e, k .goes h g) (emits-line i (w .emits) n)
+  handled-source e s = handled-put (rw e s)
+
+  -- A file, opened or refused.
+  pub handled-file : {a b : ℕ} → r ≡ Included a b → {f : File} → OpensFile v levels z (join g (part t a b)) f → Handles v levels g t r z full room c p c (record { written = record { ok = f .ok; number = f .number; next = p }; file = f })
+  unfolding emitOf
+  handled-file e {f} k = record {
+    size = refl;
+    order = k .order;
+    inside = k .inside;
+    short = k .short;
+    puts = λ w. rw (e, k .stops w g, w) (emits-fail full room c p (f .number) p);
+    left = k .left;
+    keeps = λ w. refl;
+    opens = λ w. rw e (k .goes w g);
+  }
+
+-- What a mark came to, w: put at once; or its file's text resolved, and a newline put.
+module _ {v : View} {levels : ℕ} {g t : List ℕ} {r : Reading} {z : List ℕ} {full room : ℕ} {c : List ℕ} {p : ℕ} {d : List ℕ} {o : Outcome} (H : Handles v levels g t r z full room c p d o) {e : List ℕ} {w : Written} where
+  pub came-put : o .file .ok ≡ false → e ≡ d → w ≡ o .written → Emits full room (emitOf v (insideFile v levels) g t r) c p e (w .ok) (w .number) (w .next)
+  came-put h x y = rw (x, y) (H .puts h)
+
+  pub came-inside : p ≤ room → o .file .ok ≡ true → {i : List ℕ} {s : Resolved} → Resolves full room (run (includeStep v (insideFile v (levels - 1)) (take (o .file .parent) (o .file .bytes))) [] 0 (part z (o .file .start) (o .file .end))) d p i (s .ok) (s .number) (s .next) (s .whole) →
+      {u : List ℕ} {l : Written} → EndsLine (s .ok) (s .number) full room i (s .next) u (l .ok) (l .number) (l .next) → e ≡ u → w ≡ l → Emits full room (emitOf v (insideFile v levels) g t r) c p e (w .ok) (w .number) (w .next)
+  came-inside i h {s = s} k n x y = rw (H .opens h, x, y) (emits-line i (rw (H .keeps h) at (k .emits)) n)

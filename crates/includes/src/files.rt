@@ -57,7 +57,7 @@ pub struct File {
 }
 
 // A file that is refused.
-fn refused(number: u8, bytes: [u8; 255]) -> File
+pub fn refused(number: u8, bytes: [u8; 255]) -> File
     ensures { λ r. ⌜ r ≡ refusedFile number bytes ⌝ }
 {
     File {

@@ -12,15 +12,17 @@ ghost use Rattle.buffers.specs.Put.{Writer};
 ghost use Rattle.rules.specs.Laws.Bool.{isSome};
 ghost use Rattle.bundle.specs.Find.{entriesOf};
 ghost use Rattle.buffers.specs.Emits.{Emits};
-ghost use Rattle.includes.specs.Resolve.{Resolves};
-ghost use Rattle.includes.specs.Read.{emitOf, Within};
+ghost use Rattle.includes.specs.Resolve.{putOnly, Handles, refusedText, finishedText, Resolves};
+ghost use Rattle.includes.specs.Read.{Within};
 
 mod ahead;
 mod files;
 mod marks;
 mod read;
 
+use files::File;
 use files::Written;
+use marks::Found;
 use read::Reading;
 
 // What resolving a text came to: has all been written; if not, the refusal's number; where the writer goes on; and, if all has been
@@ -32,8 +34,25 @@ pub struct Resolved {
     pub whole: bool,
 }
 
-// Does what was read at a mark: copies it, puts a source's block, or resolves an included file and puts a newline.
-fn take(
+// What came of a mark: what was written; or, where `file` is ok, a file that is to be resolved.
+pub struct Outcome {
+    pub written: Written,
+    pub file: File,
+}
+
+// What was written, and no file.
+fn put_only(w: Written) -> Outcome
+    ensures { λ r. ⌜ r ≡ putOnly w ⌝ }
+{
+    let none = files::refused(0, [0u8; 255]);
+    Outcome {
+        written: w,
+        file: none,
+    }
+}
+
+// Puts what was read at a mark, a copied part or a source's block; or opens an included file, and puts nothing.
+fn put_or_open(
     b: &[u8],
     folder: &[u8],
     text: &[u8],
@@ -43,59 +62,64 @@ fn take(
     p: usize,
     full: u8,
     levels: usize,
-) -> Written
+) -> Outcome
     requires { ⌜ (isSome (bundleOf (now b)) ≡ true) × Writer room p × (p ≤ room) × (length (now out) ≤ room) × Within (now text) what ⌝ }
-    ensures { λ r. ⌜ Emits full room (emitOf (view (entriesOf (now (b .entry)))) (insideFile (view (entriesOf (now (b .entry)))) levels) (now (folder .entry)) (now (text .entry)) what) (now (out .entry)) p (now (out .exit)) (r .ok) (r .number) (r .next) ⌝ }
+    ensures { λ r. ⌜ Handles (view (entriesOf (now (b .entry)))) levels (now (folder .entry)) (now (text .entry)) what (now (b .entry)) full room (now (out .entry)) p (now (out .exit)) r ⌝ }
 {
     match what {
         Reading::Copied { from, to } => {
             let q = buffers::put(out, room, p, &text[from..to]);
-            Written {
+            put_only(Written {
                 ok: q <= room,
                 number: full,
                 next: q,
-            }
+            })
         }
         Reading::Source {
             from,
             to,
             start,
             end,
-        } => files::source(
-            b,
-            folder,
-            &text[from..to],
-            &text[start..end],
-            out,
-            room,
-            p,
-            full,
-        ),
+        } => {
+            let path = &text[from..to];
+            let lang = &text[start..end];
+            put_only(files::source(b, folder, path, lang, out, room, p, full))
+        }
         Reading::Include { from, to } => {
             let f = files::open_file(b, folder, &text[from..to], levels);
-            if !f.ok {
-                return Written {
-                    ok: false,
+            Outcome {
+                written: Written {
+                    ok: f.ok,
                     number: f.number,
                     next: p,
-                };
+                },
+                file: f,
             }
-            let bytes = f.bytes;
-            let parent = f.parent;
-            let start = f.start;
-            let end = f.end;
-            let r = resolve(
-                b,
-                &bytes[..parent],
-                &b[start..end],
-                out,
-                room,
-                p,
-                full,
-                levels - 1,
-            );
-            files::newline(r.ok, r.number, out, room, r.next, full)
         }
+    }
+}
+
+// A text that is refused.
+fn refused(number: u8, next: usize) -> Resolved
+    ensures { λ r. ⌜ r ≡ refusedText number next ⌝ }
+{
+    Resolved {
+        ok: false,
+        number: number,
+        next: next,
+        whole: false,
+    }
+}
+
+// A text that is written.
+fn finished(next: usize, whole: bool) -> Resolved
+    ensures { λ r. ⌜ r ≡ finishedText next whole ⌝ }
+{
+    Resolved {
+        ok: true,
+        number: 0,
+        next: next,
+        whole: whole,
     }
 }
 
@@ -118,35 +142,33 @@ pub fn resolve(
     let mut whole = true;
     let mut known = ahead::nothing();
     loop {
-        let m = marks::next_mark(text, done);
-        let at = m.at;
+        let next = marks::next_mark(text, done);
+        let at = next.at;
         q = buffers::put(out, room, q, &text[done..at]);
         if room < q {
-            return Resolved {
-                ok: false,
-                number: full,
-                next: q,
-                whole: false,
-            };
+            return refused(full, q);
         }
-        if m.len == 0 {
-            return Resolved {
-                ok: true,
-                number: 0,
-                next: q,
-                whole: whole,
-            };
-        }
-        let r = read::read_mark(text, done, at, m.len, known);
+        let found = next.found;
+        let Found::Mark(mark) = found else {
+            return finished(q, whole);
+        };
+        let r = read::read_mark(text, done, at, mark, known);
         let what = r.what;
-        let w = take(b, folder, text, what, out, room, q, full, levels);
+        let o = put_or_open(b, folder, text, what, out, room, q, full, levels);
+        let mut w = o.written;
+        let f = o.file;
+        if f.ok {
+            let bytes = f.bytes;
+            let parent = f.parent;
+            let start = f.start;
+            let end = f.end;
+            let its_folder = &bytes[..parent];
+            let its_text = &b[start..end];
+            let i = resolve(b, its_folder, its_text, out, room, q, full, levels - 1);
+            w = files::newline(i.ok, i.number, out, room, i.next, full);
+        }
         if !w.ok {
-            return Resolved {
-                ok: false,
-                number: w.number,
-                next: w.next,
-                whole: false,
-            };
+            return refused(w.number, w.next);
         }
         q = w.next;
         done = r.next;

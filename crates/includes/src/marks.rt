@@ -6,44 +6,74 @@ ghost use Prim.Native.Nat.{_≤_};
 ghost use lib.ListN.{length, drop};
 ghost use Rattle.rules.specs.Includes.{commented};
 ghost use Rattle.scan.specs.Sets.{part};
-ghost use Rattle.includes.specs.Marks.{markLength, NextMark, stretch, Line};
+ghost use Rattle.includes.specs.Marks.{markAt, markText, NextMark, stretch, Line};
 
-// A mark's place and length; length 0 at the end of the text.
-pub struct Mark {
-    pub at: usize,
-    pub len: usize,
+// The marks.
+pub enum Mark {
+    Include,
+    SourceInclude,
 }
 
-// The length of the mark that stands at a place; 0 where none does.
-fn mark_at(text: &[u8], at: usize) -> usize
+// The mark that stands at a place, or none.
+pub enum Found {
+    Mark(Mark),
+    Nothing,
+}
+
+// How many bytes a mark has.
+pub fn mark_length(mark: Mark) -> usize
+    ensures { λ r. ⌜ r ≡ length (markText mark) ⌝ }
+{
+    match mark {
+        Mark::Include => b"#include".len(),
+        Mark::SourceInclude => b"#source-include".len(),
+    }
+}
+
+// The mark that stands at a place.
+fn mark_at(text: &[u8], at: usize) -> Found
     requires { ⌜ at ≤ length (now text) ⌝ }
-    ensures { λ r. ⌜ r ≡ markLength (drop at (now (text .entry))) ⌝ }
+    ensures { λ r. ⌜ r ≡ markAt (drop at (now (text .entry))) ⌝ }
 {
     if scan::starts_with(text, at, b"#include") {
-        return 8;
+        return Found::Mark(Mark::Include);
     }
     if scan::starts_with(text, at, b"#source-include") {
-        return 15;
+        return Found::Mark(Mark::SourceInclude);
     }
-    0
+    Found::Nothing
+}
+
+// The next mark and its place; nothing at the end of the text.
+pub struct Next {
+    pub at: usize,
+    pub found: Found,
 }
 
 // The next mark from a place on.
-pub fn next_mark(text: &[u8], from: usize) -> Mark
+pub fn next_mark(text: &[u8], from: usize) -> Next
     requires { ⌜ from ≤ length (now text) ⌝ }
-    ensures { λ r. ⌜ NextMark (now (text .entry)) from (r .at) (r .len) ⌝ }
+    ensures { λ r. ⌜ NextMark (now (text .entry)) from (r .at) (r .found) ⌝ }
 {
     let mut i = from;
     loop {
         let j = scan::find(text, i, b'#');
         if text.len() <= j {
-            return Mark { at: j, len: 0 };
+            return Next {
+                at: j,
+                found: Found::Nothing,
+            };
         }
-        let n = mark_at(text, j);
-        if n != 0 {
-            return Mark { at: j, len: n };
+        let found = mark_at(text, j);
+        match found {
+            Found::Mark(_) => {
+                return Next {
+                    at: j,
+                    found: found,
+                };
+            }
+            Found::Nothing => i = j + 1,
         }
-        i = j + 1;
     }
 }
 

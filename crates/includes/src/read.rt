@@ -4,18 +4,20 @@ use crate::ahead::Known;
 use crate::ahead::Pair;
 use crate::ahead::next;
 use crate::ahead::quote;
+use crate::marks::Mark;
 use crate::marks::commented;
+use crate::marks::mark_length;
 use scan::Set;
 use scan::paths::trim;
 ghost use mathlib.Core.Path.{_≡_};
 ghost use mathlib.Core.List.{[]};
-ghost use Prim.Native.Nat.{_+_, _≤_, _<_};
+ghost use Prim.Native.Nat.{_+_, _≤_};
 ghost use lib.ListN.{length, drop};
 ghost use Rattle.rules.specs.Reader.{bytes};
 ghost use Rattle.rules.specs.Includes.{includeMark, sourceMark, includeStep};
 ghost use Rattle.scan.specs.Sets.{notByte, part, Stands};
 ghost use Rattle.includes.specs.Ahead.{Knows, KnowsAll, Quotes};
-ghost use Rattle.includes.specs.Marks.{markLength, stretch};
+ghost use Rattle.includes.specs.Marks.{IsMark, markText, stretch};
 ghost use Rattle.includes.specs.Read.{copiedRead, knownPair, Reads, Behinds, HasPath};
 
 // A part of the text is copied; a file is included, its path trimmed; a source is shown, its path trimmed, with its language.
@@ -176,17 +178,17 @@ fn source_include(text: &[u8], at: usize, behind: usize, known: Known) -> Read
     source(text, behind, q, known)
 }
 
-// The mark of n bytes at a place; the remaining text began at `from`.
-pub fn read_mark(text: &[u8], from: usize, at: usize, n: usize, known: Known) -> Read
-    requires { ⌜ (from ≤ at) × (at ≤ length (now text)) × (n ≡ markLength (drop at (now text))) × (0 < n) × KnowsAll (now text) known ⌝ }
-    ensures { λ r. ⌜ Reads (λ v inside g. includeStep v inside g (stretch [] (part (now (text .entry)) from at))) (now (text .entry)) at (at + n) r ⌝ }
+// A mark at a place; the remaining text began at `from`.
+pub fn read_mark(text: &[u8], from: usize, at: usize, mark: Mark, known: Known) -> Read
+    requires { ⌜ (from ≤ at) × (at ≤ length (now text)) × IsMark mark (drop at (now text)) × KnowsAll (now text) known ⌝ }
+    ensures { λ r. ⌜ Reads (λ v inside g. includeStep v inside g (stretch [] (part (now (text .entry)) from at))) (now (text .entry)) at (at + length (markText mark)) r ⌝ }
 {
-    let behind = at + n;
+    let behind = at + mark_length(mark);
     if commented(text, from, at) {
         return copied(at, behind, true, known);
     }
-    if n == 8 {
-        return include(text, at, behind, known);
+    match mark {
+        Mark::Include => include(text, at, behind, known),
+        Mark::SourceInclude => source_include(text, at, behind, known),
     }
-    source_include(text, at, behind, known)
 }

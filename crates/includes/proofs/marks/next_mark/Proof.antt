@@ -27,8 +27,14 @@ returns c = mark-last (c .before .before .loop .inv) (c .before .find .ensures) 
 mark-at-requires : tie.Need-mark-at-requires Inv-loop μ-loop
 mark-at-requires c κs = search needs
 
+enum-told : tie.Need-enum-told Inv-loop μ-loop
+enum-told c = search needs
+
 returns-2 : tie.Need-returns-2 Inv-loop μ-loop
-returns-2 c = mark-found (c .before .before .before .before .loop .inv) (c .before .before .before .find .ensures) (c .before .mark-at .ensures) (search needs) (c .if2 .taken)
+returns-2 c = mark-found (c .before .before .before .before .before .loop .inv) (c .before .before .before .before .find .ensures) (c .before .before .mark-at .ensures) (search needs) (c .enum-told .given .1)
+
+enum-told-2 : tie.Need-enum-told-2 Inv-loop μ-loop
+enum-told-2 c = search needs
 
 add-i : tie.Need-add-i Inv-loop μ-loop
 add-i c = search needs
@@ -37,7 +43,7 @@ loop-less : tie.Need-loop-less Inv-loop μ-loop
 loop-less c = search needs
 
 loop-again : tie.Need-loop-again Inv-loop μ-loop
-loop-again c = mark-again (c .before .before .before .before .loop .inv) (c .before .before .before .find .ensures) (c .before .mark-at .ensures) (search needs) (c .if2 .left)
+loop-again c = mark-again (c .before .before .before .before .before .loop .inv) (c .before .before .before .before .find .ensures) (c .before .before .mark-at .ensures) (search needs) (c .enum-told2 .given .1)
 
 pub next-mark-spec : {M : Type 1} → statement M
 next-mark-spec =
@@ -49,7 +55,9 @@ next-mark-spec =
     find-requires
     returns
     mark-at-requires
+    enum-told
     returns-2
+    enum-told-2
     add-i
     loop-less
     loop-again)

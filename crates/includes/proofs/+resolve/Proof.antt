@@ -1,0 +1,771 @@
+use borrow.Author.Needs.{needs}
+use Prim.Native.Nat.{ℕ, _<_}
+use borrow.Fn.Kinds.{In}
+use borrow.Fn.PlainCycle.{Measures, is, falls, and}
+use Rattle.includes.proofs.resolve.Reads as resolve
+use Rattle.includes.proofs.resolve.Kinds as resolve-kinds
+use Rattle.includes.proofs.+resolve.Lts-resolve as resolve-lts
+use Rattle.buffers.proofs.put.Reads as put-reads
+use Rattle.includes.proofs.ahead.nothing.Reads as nothing-reads
+use Rattle.includes.proofs.files.newline.Reads as newline-reads
+use Rattle.includes.proofs.finished.Reads as finished-reads
+use Rattle.includes.proofs.marks.next_mark.Reads as next-mark-reads
+use Rattle.includes.proofs.put_or_open.Reads as put-or-open-reads
+use Rattle.includes.proofs.read.read_mark.Reads as read-mark-reads
+use Rattle.includes.proofs.refused.Reads as refused-reads
+use Rattle.includes.proofs.+resolve.{statement}
+use Rattle.includes.proofs.+resolve.Tie.{close}
+use mathlib.Core.Path.{_≡_, sym, ap, _∙_}
+use mathlib.Core.Logic.{⊎-elim}
+use Prim.Native.Nat.{_+_, _-_, _≤_}
+use native.Mathlib.Omega.{arith}
+use borrow.Author.Tests.{not-true, not-false}
+use lib.ListN.{length}
+use lib.Seq.{length-take-le}
+use Rattle.rules.specs.Files.{view}
+use Rattle.rules.specs.Includes.{insideFile}
+use Rattle.buffers.specs.Put.{Writer}
+use Rattle.buffers.specs.Emits.{Emits}
+use Rattle.buffers.specs.Laws.{put-writer, put-length}
+use Rattle.bundle.specs.Find.{entriesOf}
+use Rattle.includes.specs.Resolve.{Resolving, resolving-start, resolving-full, resolving-end, resolving-refused, resolving-on, came-put, came-inside}
+use Rattle.includes.specs.Marks.{mark-some}
+
+abbrev μ-resolve : Measures 4 resolve-kinds.ps ℕ
+μ-resolve κs a = a .1 .1 .1 .1 .1 .1 .1 .0
+
+abbrev resolve-at : ℕ → In 4 resolve-kinds.ps
+resolve-at t = and 4 resolve-kinds.ps (is 4 resolve-kinds.ps μ-resolve t) resolve.Pre
+
+abbrev resolve-below : ℕ → In 4 resolve-kinds.ps
+resolve-below t = and 4 resolve-kinds.ps (falls 4 resolve-kinds.ps _<_ μ-resolve t) resolve.Pre
+
+abbrev resolve-Inv-loop : resolve-lts.InvT-loop
+resolve-Inv-loop b folder text out₀ room p full levels done₀ q₀ whole₀ known₀ out done q whole known =
+    Resolving (view (entriesOf b)) (insideFile (view (entriesOf b)) levels) folder text full room out₀ p out done q whole known
+
+abbrev resolve-μ-loop : resolve-lts.MeasureT-loop
+resolve-μ-loop b folder text out₀ room p full levels done₀ q₀ whole₀ known₀ out done q whole known =
+    length text - done
+
+resolve-nothing-requires : (t : ℕ) → resolve-lts.Need-nothing-requires (
+  nothing-reads.Asked,
+  nothing-reads.Learnt,
+  next-mark-reads.Asked,
+  next-mark-reads.Learnt,
+  put-reads.Asked,
+  put-reads.Learnt,
+  refused-reads.Asked,
+  refused-reads.Learnt,
+  finished-reads.Asked,
+  finished-reads.Learnt,
+  read-mark-reads.Asked,
+  read-mark-reads.Learnt,
+  put-or-open-reads.Asked,
+  put-or-open-reads.Learnt,
+  resolve-below t,
+  resolve.Post,
+  newline-reads.Asked,
+  newline-reads.Learnt,
+) (resolve-at t) resolve.Post resolve-Inv-loop resolve-μ-loop
+resolve-nothing-requires t c κs = search needs
+
+resolve-loop-holds : (t : ℕ) → resolve-lts.Need-loop-holds (
+  nothing-reads.Asked,
+  nothing-reads.Learnt,
+  next-mark-reads.Asked,
+  next-mark-reads.Learnt,
+  put-reads.Asked,
+  put-reads.Learnt,
+  refused-reads.Asked,
+  refused-reads.Learnt,
+  finished-reads.Asked,
+  finished-reads.Learnt,
+  read-mark-reads.Asked,
+  read-mark-reads.Learnt,
+  put-or-open-reads.Asked,
+  put-or-open-reads.Learnt,
+  resolve-below t,
+  resolve.Post,
+  newline-reads.Asked,
+  newline-reads.Learnt,
+) (resolve-at t) resolve.Post resolve-Inv-loop resolve-μ-loop
+resolve-loop-holds t c = resolving-start _ _ _ _ (c .before .before .before .before .before .pre .1 .2) (c .nothing .ensures _)
+
+resolve-next-mark-requires : (t : ℕ) → resolve-lts.Need-next-mark-requires (
+  nothing-reads.Asked,
+  nothing-reads.Learnt,
+  next-mark-reads.Asked,
+  next-mark-reads.Learnt,
+  put-reads.Asked,
+  put-reads.Learnt,
+  refused-reads.Asked,
+  refused-reads.Learnt,
+  finished-reads.Asked,
+  finished-reads.Learnt,
+  read-mark-reads.Asked,
+  read-mark-reads.Learnt,
+  put-or-open-reads.Asked,
+  put-or-open-reads.Learnt,
+  resolve-below t,
+  resolve.Post,
+  newline-reads.Asked,
+  newline-reads.Learnt,
+) (resolve-at t) resolve.Post resolve-Inv-loop resolve-μ-loop
+resolve-next-mark-requires t c κs = c .loop .inv .inside
+
+resolve-sub-put : (t : ℕ) → resolve-lts.Need-sub-put (
+  nothing-reads.Asked,
+  nothing-reads.Learnt,
+  next-mark-reads.Asked,
+  next-mark-reads.Learnt,
+  put-reads.Asked,
+  put-reads.Learnt,
+  refused-reads.Asked,
+  refused-reads.Learnt,
+  finished-reads.Asked,
+  finished-reads.Learnt,
+  read-mark-reads.Asked,
+  read-mark-reads.Learnt,
+  put-or-open-reads.Asked,
+  put-or-open-reads.Learnt,
+  resolve-below t,
+  resolve.Post,
+  newline-reads.Asked,
+  newline-reads.Learnt,
+) (resolve-at t) resolve.Post resolve-Inv-loop resolve-μ-loop
+resolve-sub-put t c = search needs
+
+resolve-part-put-start : (t : ℕ) → resolve-lts.Need-part-put-start (
+  nothing-reads.Asked,
+  nothing-reads.Learnt,
+  next-mark-reads.Asked,
+  next-mark-reads.Learnt,
+  put-reads.Asked,
+  put-reads.Learnt,
+  refused-reads.Asked,
+  refused-reads.Learnt,
+  finished-reads.Asked,
+  finished-reads.Learnt,
+  read-mark-reads.Asked,
+  read-mark-reads.Learnt,
+  put-or-open-reads.Asked,
+  put-or-open-reads.Learnt,
+  resolve-below t,
+  resolve.Post,
+  newline-reads.Asked,
+  newline-reads.Learnt,
+) (resolve-at t) resolve.Post resolve-Inv-loop resolve-μ-loop
+resolve-part-put-start t c = search needs
+
+resolve-part-put-end : (t : ℕ) → resolve-lts.Need-part-put-end (
+  nothing-reads.Asked,
+  nothing-reads.Learnt,
+  next-mark-reads.Asked,
+  next-mark-reads.Learnt,
+  put-reads.Asked,
+  put-reads.Learnt,
+  refused-reads.Asked,
+  refused-reads.Learnt,
+  finished-reads.Asked,
+  finished-reads.Learnt,
+  read-mark-reads.Asked,
+  read-mark-reads.Learnt,
+  put-or-open-reads.Asked,
+  put-or-open-reads.Learnt,
+  resolve-below t,
+  resolve.Post,
+  newline-reads.Asked,
+  newline-reads.Learnt,
+) (resolve-at t) resolve.Post resolve-Inv-loop resolve-μ-loop
+resolve-part-put-end t c = search needs
+
+resolve-put-requires : (t : ℕ) → resolve-lts.Need-put-requires (
+  nothing-reads.Asked,
+  nothing-reads.Learnt,
+  next-mark-reads.Asked,
+  next-mark-reads.Learnt,
+  put-reads.Asked,
+  put-reads.Learnt,
+  refused-reads.Asked,
+  refused-reads.Learnt,
+  finished-reads.Asked,
+  finished-reads.Learnt,
+  read-mark-reads.Asked,
+  read-mark-reads.Learnt,
+  put-or-open-reads.Asked,
+  put-or-open-reads.Learnt,
+  resolve-below t,
+  resolve.Post,
+  newline-reads.Asked,
+  newline-reads.Learnt,
+) (resolve-at t) resolve.Post resolve-Inv-loop resolve-μ-loop
+resolve-put-requires t c κs = record { place = omega (arith, c .before .before .before .loop .inv .place); fits = c .before .before .before .before .before .before .before .before .before .pre .1 .1 .fits }
+
+resolve-refused-requires : (t : ℕ) → resolve-lts.Need-refused-requires (
+  nothing-reads.Asked,
+  nothing-reads.Learnt,
+  next-mark-reads.Asked,
+  next-mark-reads.Learnt,
+  put-reads.Asked,
+  put-reads.Learnt,
+  refused-reads.Asked,
+  refused-reads.Learnt,
+  finished-reads.Asked,
+  finished-reads.Learnt,
+  read-mark-reads.Asked,
+  read-mark-reads.Learnt,
+  put-or-open-reads.Asked,
+  put-or-open-reads.Learnt,
+  resolve-below t,
+  resolve.Post,
+  newline-reads.Asked,
+  newline-reads.Learnt,
+) (resolve-at t) resolve.Post resolve-Inv-loop resolve-μ-loop
+resolve-refused-requires t c κs = search needs
+
+resolve-same-length : (t : ℕ) → resolve-lts.Need-same-length (
+  nothing-reads.Asked,
+  nothing-reads.Learnt,
+  next-mark-reads.Asked,
+  next-mark-reads.Learnt,
+  put-reads.Asked,
+  put-reads.Learnt,
+  refused-reads.Asked,
+  refused-reads.Learnt,
+  finished-reads.Asked,
+  finished-reads.Learnt,
+  read-mark-reads.Asked,
+  read-mark-reads.Learnt,
+  put-or-open-reads.Asked,
+  put-or-open-reads.Learnt,
+  resolve-below t,
+  resolve.Post,
+  newline-reads.Asked,
+  newline-reads.Learnt,
+) (resolve-at t) resolve.Post resolve-Inv-loop resolve-μ-loop
+resolve-same-length t c = put-length (c .before .before .before .before .put .ensures) ∙ c .before .before .before .before .before .before .before .before .loop .inv .size
+
+resolve-returns : (t : ℕ) → resolve-lts.Need-returns (
+  nothing-reads.Asked,
+  nothing-reads.Learnt,
+  next-mark-reads.Asked,
+  next-mark-reads.Learnt,
+  put-reads.Asked,
+  put-reads.Learnt,
+  refused-reads.Asked,
+  refused-reads.Learnt,
+  finished-reads.Asked,
+  finished-reads.Learnt,
+  read-mark-reads.Asked,
+  read-mark-reads.Learnt,
+  put-or-open-reads.Asked,
+  put-or-open-reads.Learnt,
+  resolve-below t,
+  resolve.Post,
+  newline-reads.Asked,
+  newline-reads.Learnt,
+) (resolve-at t) resolve.Post resolve-Inv-loop resolve-μ-loop
+resolve-returns t c = rw (c .refused .ensures) (resolving-full _ _ _ _ (c .before .before .before .before .before .before .before .before .loop .inv) (c .before .before .before .before .before .before .before .next-mark .ensures) (c .before .before .before .before .put .ensures) (search needs))
+
+resolve-enum-known-found : (t : ℕ) → resolve-lts.Need-enum-known-found (
+  nothing-reads.Asked,
+  nothing-reads.Learnt,
+  next-mark-reads.Asked,
+  next-mark-reads.Learnt,
+  put-reads.Asked,
+  put-reads.Learnt,
+  refused-reads.Asked,
+  refused-reads.Learnt,
+  finished-reads.Asked,
+  finished-reads.Learnt,
+  read-mark-reads.Asked,
+  read-mark-reads.Learnt,
+  put-or-open-reads.Asked,
+  put-or-open-reads.Learnt,
+  resolve-below t,
+  resolve.Post,
+  newline-reads.Asked,
+  newline-reads.Learnt,
+) (resolve-at t) resolve.Post resolve-Inv-loop resolve-μ-loop
+resolve-enum-known-found t c = search needs
+
+resolve-enum-told : (t : ℕ) → resolve-lts.Need-enum-told (
+  nothing-reads.Asked,
+  nothing-reads.Learnt,
+  next-mark-reads.Asked,
+  next-mark-reads.Learnt,
+  put-reads.Asked,
+  put-reads.Learnt,
+  refused-reads.Asked,
+  refused-reads.Learnt,
+  finished-reads.Asked,
+  finished-reads.Learnt,
+  read-mark-reads.Asked,
+  read-mark-reads.Learnt,
+  put-or-open-reads.Asked,
+  put-or-open-reads.Learnt,
+  resolve-below t,
+  resolve.Post,
+  newline-reads.Asked,
+  newline-reads.Learnt,
+) (resolve-at t) resolve.Post resolve-Inv-loop resolve-μ-loop
+resolve-enum-told t c = search needs
+
+resolve-finished-requires : (t : ℕ) → resolve-lts.Need-finished-requires (
+  nothing-reads.Asked,
+  nothing-reads.Learnt,
+  next-mark-reads.Asked,
+  next-mark-reads.Learnt,
+  put-reads.Asked,
+  put-reads.Learnt,
+  refused-reads.Asked,
+  refused-reads.Learnt,
+  finished-reads.Asked,
+  finished-reads.Learnt,
+  read-mark-reads.Asked,
+  read-mark-reads.Learnt,
+  put-or-open-reads.Asked,
+  put-or-open-reads.Learnt,
+  resolve-below t,
+  resolve.Post,
+  newline-reads.Asked,
+  newline-reads.Learnt,
+) (resolve-at t) resolve.Post resolve-Inv-loop resolve-μ-loop
+resolve-finished-requires t c κs = search needs
+
+resolve-same-length-2 : (t : ℕ) → resolve-lts.Need-same-length-2 (
+  nothing-reads.Asked,
+  nothing-reads.Learnt,
+  next-mark-reads.Asked,
+  next-mark-reads.Learnt,
+  put-reads.Asked,
+  put-reads.Learnt,
+  refused-reads.Asked,
+  refused-reads.Learnt,
+  finished-reads.Asked,
+  finished-reads.Learnt,
+  read-mark-reads.Asked,
+  read-mark-reads.Learnt,
+  put-or-open-reads.Asked,
+  put-or-open-reads.Learnt,
+  resolve-below t,
+  resolve.Post,
+  newline-reads.Asked,
+  newline-reads.Learnt,
+) (resolve-at t) resolve.Post resolve-Inv-loop resolve-μ-loop
+resolve-same-length-2 t c = put-length (c .before .before .before .before .before .before .put .ensures) ∙ c .before .before .before .before .before .before .before .before .before .before .loop .inv .size
+
+resolve-returns-2 : (t : ℕ) → resolve-lts.Need-returns-2 (
+  nothing-reads.Asked,
+  nothing-reads.Learnt,
+  next-mark-reads.Asked,
+  next-mark-reads.Learnt,
+  put-reads.Asked,
+  put-reads.Learnt,
+  refused-reads.Asked,
+  refused-reads.Learnt,
+  finished-reads.Asked,
+  finished-reads.Learnt,
+  read-mark-reads.Asked,
+  read-mark-reads.Learnt,
+  put-or-open-reads.Asked,
+  put-or-open-reads.Learnt,
+  resolve-below t,
+  resolve.Post,
+  newline-reads.Asked,
+  newline-reads.Learnt,
+) (resolve-at t) resolve.Post resolve-Inv-loop resolve-μ-loop
+resolve-returns-2 t c = rw (c .finished .ensures) (resolving-end _ _ _ _ (c .before .before .before .before .before .before .before .before .before .before .loop .inv) (c .before .before .before .before .before .before .before .before .before .next-mark .ensures) (c .before .before .before .before .before .before .put .ensures) (search needs) (c .before .enum-told .given .1))
+
+resolve-read-mark-requires : (t : ℕ) → resolve-lts.Need-read-mark-requires (
+  nothing-reads.Asked,
+  nothing-reads.Learnt,
+  next-mark-reads.Asked,
+  next-mark-reads.Learnt,
+  put-reads.Asked,
+  put-reads.Learnt,
+  refused-reads.Asked,
+  refused-reads.Learnt,
+  finished-reads.Asked,
+  finished-reads.Learnt,
+  read-mark-reads.Asked,
+  read-mark-reads.Learnt,
+  put-or-open-reads.Asked,
+  put-or-open-reads.Learnt,
+  resolve-below t,
+  resolve.Post,
+  newline-reads.Asked,
+  newline-reads.Learnt,
+) (resolve-at t) resolve.Post resolve-Inv-loop resolve-μ-loop
+resolve-read-mark-requires t c κs = (c .before .before .before .before .before .before .before .before .before .next-mark .ensures .before .on, c .before .before .before .before .before .before .before .before .before .next-mark .ensures .before .inside, sym (c .before .found .given .1) ∙ c .before .before .before .before .before .before .before .before .before .next-mark .ensures .there, c .before .before .before .before .before .before .before .before .before .before .loop .inv .knows)
+
+resolve-put-or-open-requires : (t : ℕ) → resolve-lts.Need-put-or-open-requires (
+  nothing-reads.Asked,
+  nothing-reads.Learnt,
+  next-mark-reads.Asked,
+  next-mark-reads.Learnt,
+  put-reads.Asked,
+  put-reads.Learnt,
+  refused-reads.Asked,
+  refused-reads.Learnt,
+  finished-reads.Asked,
+  finished-reads.Learnt,
+  read-mark-reads.Asked,
+  read-mark-reads.Learnt,
+  put-or-open-reads.Asked,
+  put-or-open-reads.Learnt,
+  resolve-below t,
+  resolve.Post,
+  newline-reads.Asked,
+  newline-reads.Learnt,
+) (resolve-at t) resolve.Post resolve-Inv-loop resolve-μ-loop
+resolve-put-or-open-requires t c κs = (c .before .before .before .before .before .before .before .before .before .before .before .before .before .before .before .before .before .before .pre .1 .0, put-writer (c .before .before .before .before .before .before .before .before .put .ensures) (record { place = omega (arith, c .before .before .before .before .before .before .before .before .before .before .before .before .loop .inv .place); fits = c .before .before .before .before .before .before .before .before .before .before .before .before .before .before .before .before .before .before .pre .1 .1 .fits }), search needs, omega (arith, put-length (c .before .before .before .before .before .before .before .before .put .ensures), c .before .before .before .before .before .before .before .before .before .before .before .before .loop .inv .size, c .before .before .before .before .before .before .before .before .before .before .before .before .before .before .before .before .before .before .pre .1 .3), c .before .read-mark .ensures .parts)
+
+resolve-array-share-prefix-bytes : (t : ℕ) → resolve-lts.Need-array-share-prefix-bytes (
+  nothing-reads.Asked,
+  nothing-reads.Learnt,
+  next-mark-reads.Asked,
+  next-mark-reads.Learnt,
+  put-reads.Asked,
+  put-reads.Learnt,
+  refused-reads.Asked,
+  refused-reads.Learnt,
+  finished-reads.Asked,
+  finished-reads.Learnt,
+  read-mark-reads.Asked,
+  read-mark-reads.Learnt,
+  put-or-open-reads.Asked,
+  put-or-open-reads.Learnt,
+  resolve-below t,
+  resolve.Post,
+  newline-reads.Asked,
+  newline-reads.Learnt,
+) (resolve-at t) resolve.Post resolve-Inv-loop resolve-μ-loop
+resolve-array-share-prefix-bytes t c = c .before .before .before .before .before .before .put-or-open .ensures .short
+
+resolve-slice-aggregate-its-folder : (t : ℕ) → resolve-lts.Need-slice-aggregate-its-folder (
+  nothing-reads.Asked,
+  nothing-reads.Learnt,
+  next-mark-reads.Asked,
+  next-mark-reads.Learnt,
+  put-reads.Asked,
+  put-reads.Learnt,
+  refused-reads.Asked,
+  refused-reads.Learnt,
+  finished-reads.Asked,
+  finished-reads.Learnt,
+  read-mark-reads.Asked,
+  read-mark-reads.Learnt,
+  put-or-open-reads.Asked,
+  put-or-open-reads.Learnt,
+  resolve-below t,
+  resolve.Post,
+  newline-reads.Asked,
+  newline-reads.Learnt,
+) (resolve-at t) resolve.Post resolve-Inv-loop resolve-μ-loop
+resolve-slice-aggregate-its-folder t c = sym (length-take-le _ _ (c .before .before .before .before .before .before .before .put-or-open .ensures .short))
+
+resolve-sub-its-text : (t : ℕ) → resolve-lts.Need-sub-its-text (
+  nothing-reads.Asked,
+  nothing-reads.Learnt,
+  next-mark-reads.Asked,
+  next-mark-reads.Learnt,
+  put-reads.Asked,
+  put-reads.Learnt,
+  refused-reads.Asked,
+  refused-reads.Learnt,
+  finished-reads.Asked,
+  finished-reads.Learnt,
+  read-mark-reads.Asked,
+  read-mark-reads.Learnt,
+  put-or-open-reads.Asked,
+  put-or-open-reads.Learnt,
+  resolve-below t,
+  resolve.Post,
+  newline-reads.Asked,
+  newline-reads.Learnt,
+) (resolve-at t) resolve.Post resolve-Inv-loop resolve-μ-loop
+resolve-sub-its-text t c = search needs
+
+resolve-part-its-text-start : (t : ℕ) → resolve-lts.Need-part-its-text-start (
+  nothing-reads.Asked,
+  nothing-reads.Learnt,
+  next-mark-reads.Asked,
+  next-mark-reads.Learnt,
+  put-reads.Asked,
+  put-reads.Learnt,
+  refused-reads.Asked,
+  refused-reads.Learnt,
+  finished-reads.Asked,
+  finished-reads.Learnt,
+  read-mark-reads.Asked,
+  read-mark-reads.Learnt,
+  put-or-open-reads.Asked,
+  put-or-open-reads.Learnt,
+  resolve-below t,
+  resolve.Post,
+  newline-reads.Asked,
+  newline-reads.Learnt,
+) (resolve-at t) resolve.Post resolve-Inv-loop resolve-μ-loop
+resolve-part-its-text-start t c = search needs
+
+resolve-part-its-text-end : (t : ℕ) → resolve-lts.Need-part-its-text-end (
+  nothing-reads.Asked,
+  nothing-reads.Learnt,
+  next-mark-reads.Asked,
+  next-mark-reads.Learnt,
+  put-reads.Asked,
+  put-reads.Learnt,
+  refused-reads.Asked,
+  refused-reads.Learnt,
+  finished-reads.Asked,
+  finished-reads.Learnt,
+  read-mark-reads.Asked,
+  read-mark-reads.Learnt,
+  put-or-open-reads.Asked,
+  put-or-open-reads.Learnt,
+  resolve-below t,
+  resolve.Post,
+  newline-reads.Asked,
+  newline-reads.Learnt,
+) (resolve-at t) resolve.Post resolve-Inv-loop resolve-μ-loop
+resolve-part-its-text-end t c = search needs
+
+resolve-sub-resolve : (t : ℕ) → resolve-lts.Need-sub-resolve (
+  nothing-reads.Asked,
+  nothing-reads.Learnt,
+  next-mark-reads.Asked,
+  next-mark-reads.Learnt,
+  put-reads.Asked,
+  put-reads.Learnt,
+  refused-reads.Asked,
+  refused-reads.Learnt,
+  finished-reads.Asked,
+  finished-reads.Learnt,
+  read-mark-reads.Asked,
+  read-mark-reads.Learnt,
+  put-or-open-reads.Asked,
+  put-or-open-reads.Learnt,
+  resolve-below t,
+  resolve.Post,
+  newline-reads.Asked,
+  newline-reads.Learnt,
+) (resolve-at t) resolve.Post resolve-Inv-loop resolve-μ-loop
+resolve-sub-resolve t c = let h = c .before .before .before .before .before .before .before .before .before .put-or-open .ensures .left (c .before .before .before .before .if2 .taken) in search needs
+
+resolve-resolve-requires : (t : ℕ) → resolve-lts.Need-resolve-requires (
+  nothing-reads.Asked,
+  nothing-reads.Learnt,
+  next-mark-reads.Asked,
+  next-mark-reads.Learnt,
+  put-reads.Asked,
+  put-reads.Learnt,
+  refused-reads.Asked,
+  refused-reads.Learnt,
+  finished-reads.Asked,
+  finished-reads.Learnt,
+  read-mark-reads.Asked,
+  read-mark-reads.Learnt,
+  put-or-open-reads.Asked,
+  put-or-open-reads.Learnt,
+  resolve-below t,
+  resolve.Post,
+  newline-reads.Asked,
+  newline-reads.Learnt,
+) (resolve-at t) resolve.Post resolve-Inv-loop resolve-μ-loop
+resolve-resolve-requires t c κs =
+    let h = c .before .before .before .before .before .before .before .before .before .put-or-open .ensures .left (c .before .before .before .before .if2 .taken) in
+    (omega (arith, c .before .before .before .before .before .before .before .before .before .before .before .before .before .before .before .before .before .before .before .before .before .before .before .before .before .before .before .before .pre .0, h), (c .before .before .before .before .before .before .before .before .before .before .before .before .before .before .before .before .before .before .before .before .before .before .before .before .before .before .before .before .pre .1 .0, put-writer (c .before .before .before .before .before .before .before .before .before .before .before .before .before .before .before .before .before .before .put .ensures) (record { place = omega (arith, c .before .before .before .before .before .before .before .before .before .before .before .before .before .before .before .before .before .before .before .before .before .before .loop .inv .place); fits = c .before .before .before .before .before .before .before .before .before .before .before .before .before .before .before .before .before .before .before .before .before .before .before .before .before .before .before .before .pre .1 .1 .fits }), omega arith, omega (arith, c .before .before .before .before .before .before .before .before .before .put-or-open .ensures .size, put-length (c .before .before .before .before .before .before .before .before .before .before .before .before .before .before .before .before .before .before .put .ensures), c .before .before .before .before .before .before .before .before .before .before .before .before .before .before .before .before .before .before .before .before .before .before .loop .inv .size, c .before .before .before .before .before .before .before .before .before .before .before .before .before .before .before .before .before .before .before .before .before .before .before .before .before .before .before .before .pre .1 .3)))
+
+resolve-newline-requires : (t : ℕ) → resolve-lts.Need-newline-requires (
+  nothing-reads.Asked,
+  nothing-reads.Learnt,
+  next-mark-reads.Asked,
+  next-mark-reads.Learnt,
+  put-reads.Asked,
+  put-reads.Learnt,
+  refused-reads.Asked,
+  refused-reads.Learnt,
+  finished-reads.Asked,
+  finished-reads.Learnt,
+  read-mark-reads.Asked,
+  read-mark-reads.Learnt,
+  put-or-open-reads.Asked,
+  put-or-open-reads.Learnt,
+  resolve-below t,
+  resolve.Post,
+  newline-reads.Asked,
+  newline-reads.Learnt,
+) (resolve-at t) resolve.Post resolve-Inv-loop resolve-μ-loop
+resolve-newline-requires t c κs = λ z. record { place = omega (arith, c .before .before .before .resolve .ensures .emits .goes z .fits); fits = c .before .before .before .before .before .before .before .before .before .before .before .before .before .before .before .before .before .before .before .before .before .before .before .before .before .before .before .before .before .before .before .before .pre .1 .1 .fits }
+
+resolve-refused-requires-2 : (t : ℕ) → resolve-lts.Need-refused-requires-2 (
+  nothing-reads.Asked,
+  nothing-reads.Learnt,
+  next-mark-reads.Asked,
+  next-mark-reads.Learnt,
+  put-reads.Asked,
+  put-reads.Learnt,
+  refused-reads.Asked,
+  refused-reads.Learnt,
+  finished-reads.Asked,
+  finished-reads.Learnt,
+  read-mark-reads.Asked,
+  read-mark-reads.Learnt,
+  put-or-open-reads.Asked,
+  put-or-open-reads.Learnt,
+  resolve-below t,
+  resolve.Post,
+  newline-reads.Asked,
+  newline-reads.Learnt,
+) (resolve-at t) resolve.Post resolve-Inv-loop resolve-μ-loop
+resolve-refused-requires-2 t c κs = search needs
+
+resolve-same-length-3 : (t : ℕ) → resolve-lts.Need-same-length-3 (
+  nothing-reads.Asked,
+  nothing-reads.Learnt,
+  next-mark-reads.Asked,
+  next-mark-reads.Learnt,
+  put-reads.Asked,
+  put-reads.Learnt,
+  refused-reads.Asked,
+  refused-reads.Learnt,
+  finished-reads.Asked,
+  finished-reads.Learnt,
+  read-mark-reads.Asked,
+  read-mark-reads.Learnt,
+  put-or-open-reads.Asked,
+  put-or-open-reads.Learnt,
+  resolve-below t,
+  resolve.Post,
+  newline-reads.Asked,
+  newline-reads.Learnt,
+) (resolve-at t) resolve.Post resolve-Inv-loop resolve-μ-loop
+resolve-same-length-3 t c = ⊎-elim (λ w. ap length (w .12) ∙ w .9 .ensures .size ∙ w .5 .ensures .emits .size) (λ w. ap length (w .1)) (c .before .before .before .if2 .came) ∙ c .before .before .before .before .before .before .before .before .put-or-open .ensures .size ∙ put-length (c .before .before .before .before .before .before .before .before .before .before .before .before .before .before .before .before .before .put .ensures) ∙ c .before .before .before .before .before .before .before .before .before .before .before .before .before .before .before .before .before .before .before .before .before .loop .inv .size
+
+resolve-returns-3 : (t : ℕ) → resolve-lts.Need-returns-3 (
+  nothing-reads.Asked,
+  nothing-reads.Learnt,
+  next-mark-reads.Asked,
+  next-mark-reads.Learnt,
+  put-reads.Asked,
+  put-reads.Learnt,
+  refused-reads.Asked,
+  refused-reads.Learnt,
+  finished-reads.Asked,
+  finished-reads.Learnt,
+  read-mark-reads.Asked,
+  read-mark-reads.Learnt,
+  put-or-open-reads.Asked,
+  put-or-open-reads.Learnt,
+  resolve-below t,
+  resolve.Post,
+  newline-reads.Asked,
+  newline-reads.Learnt,
+) (resolve-at t) resolve.Post resolve-Inv-loop resolve-μ-loop
+resolve-returns-3 t c = rw (c .refused2 .ensures) (resolving-refused _ _ _ _ (c .before .before .before .before .before .before .before .before .before .before .before .before .before .before .before .before .before .before .before .before .before .loop .inv) (c .before .before .before .before .before .before .before .before .before .before .before .before .before .before .before .before .before .before .before .before .next-mark .ensures) (c .before .before .before .before .before .before .before .before .before .before .before .before .before .before .before .before .before .put .ensures) (search needs) (c .before .before .before .before .before .before .before .before .before .before .before .before .found .given .0 .0) (c .before .before .before .before .before .before .before .before .before .before .read-mark .ensures) {fine = c .before .before .before .if2 .w .ok} {u = c .before .before .before .if2 .w .next} (⊎-elim (λ w. came-inside (c .before .before .before .before .before .before .before .before .put-or-open .ensures) (omega (arith, c .before .before .before .before .before .before .before .before .before .before .before .before .before .before .if1 .left)) (w .0 .taken) (w .5 .ensures) (w .9 .ensures) (w .12) (w .13)) (λ w. came-put (c .before .before .before .before .before .before .before .before .put-or-open .ensures) (w .0 .left) (w .1) (w .2)) (c .before .before .before .if2 .came)) (not-true _ (c .before .if3 .taken)))
+
+resolve-loop-less : (t : ℕ) → resolve-lts.Need-loop-less (
+  nothing-reads.Asked,
+  nothing-reads.Learnt,
+  next-mark-reads.Asked,
+  next-mark-reads.Learnt,
+  put-reads.Asked,
+  put-reads.Learnt,
+  refused-reads.Asked,
+  refused-reads.Learnt,
+  finished-reads.Asked,
+  finished-reads.Learnt,
+  read-mark-reads.Asked,
+  read-mark-reads.Learnt,
+  put-or-open-reads.Asked,
+  put-or-open-reads.Learnt,
+  resolve-below t,
+  resolve.Post,
+  newline-reads.Asked,
+  newline-reads.Learnt,
+) (resolve-at t) resolve.Post resolve-Inv-loop resolve-μ-loop
+resolve-loop-less t c =
+    let n = c .before .before .before .before .before .before .before .before .before .before .before .before .before .before .before .before .before .before .before .before .before .next-mark .ensures .before .on in
+    let o = c .before .before .before .before .before .before .before .before .before .before .before .read-mark .ensures .on in
+    let i = c .before .before .before .before .before .before .before .before .before .before .before .read-mark .ensures .inside in
+    omega (arith, mark-some (c .before .before .before .before .before .before .before .before .before .before .before .before .before .found .given .0 .0))
+
+resolve-loop-again : (t : ℕ) → resolve-lts.Need-loop-again (
+  nothing-reads.Asked,
+  nothing-reads.Learnt,
+  next-mark-reads.Asked,
+  next-mark-reads.Learnt,
+  put-reads.Asked,
+  put-reads.Learnt,
+  refused-reads.Asked,
+  refused-reads.Learnt,
+  finished-reads.Asked,
+  finished-reads.Learnt,
+  read-mark-reads.Asked,
+  read-mark-reads.Learnt,
+  put-or-open-reads.Asked,
+  put-or-open-reads.Learnt,
+  resolve-below t,
+  resolve.Post,
+  newline-reads.Asked,
+  newline-reads.Learnt,
+) (resolve-at t) resolve.Post resolve-Inv-loop resolve-μ-loop
+resolve-loop-again t c = resolving-on _ _ _ _ (c .before .before .before .before .before .before .before .before .before .before .before .before .before .before .before .before .before .before .before .before .before .before .loop .inv) (c .before .before .before .before .before .before .before .before .before .before .before .before .before .before .before .before .before .before .before .before .before .next-mark .ensures) (c .before .before .before .before .before .before .before .before .before .before .before .before .before .before .before .before .before .before .put .ensures) (search needs) (c .before .before .before .before .before .before .before .before .before .before .before .before .before .found .given .0 .0) (c .before .before .before .before .before .before .before .before .before .before .before .read-mark .ensures) {fine = c .before .before .before .before .if2 .w .ok} {o = c .before .before .before .before .if2 .w .number} (⊎-elim (λ w. came-inside (c .before .before .before .before .before .before .before .before .before .put-or-open .ensures) (omega (arith, c .before .before .before .before .before .before .before .before .before .before .before .before .before .before .before .if1 .left)) (w .0 .taken) (w .5 .ensures) (w .9 .ensures) (w .12) (w .13)) (λ w. came-put (c .before .before .before .before .before .before .before .before .before .put-or-open .ensures) (w .0 .left) (w .1) (w .2)) (c .before .before .before .before .if2 .came)) (not-false _ (c .before .before .if3 .left))
+
+pub +resolve-spec : {M : Type 1} → statement M
++resolve-spec = close μ-resolve λ t. resolve-lts.spec (
+  nothing-reads.Asked,
+  nothing-reads.Learnt,
+  next-mark-reads.Asked,
+  next-mark-reads.Learnt,
+  put-reads.Asked,
+  put-reads.Learnt,
+  refused-reads.Asked,
+  refused-reads.Learnt,
+  finished-reads.Asked,
+  finished-reads.Learnt,
+  read-mark-reads.Asked,
+  read-mark-reads.Learnt,
+  put-or-open-reads.Asked,
+  put-or-open-reads.Learnt,
+  resolve-below t,
+  resolve.Post,
+  newline-reads.Asked,
+  newline-reads.Learnt,
+)
+    (resolve-at t)
+    resolve.Post
+    resolve-Inv-loop
+    resolve-μ-loop
+    (resolve-nothing-requires t)
+    (resolve-loop-holds t)
+    (resolve-next-mark-requires t)
+    (resolve-sub-put t)
+    (resolve-part-put-start t)
+    (resolve-part-put-end t)
+    (resolve-put-requires t)
+    (resolve-refused-requires t)
+    (resolve-same-length t)
+    (resolve-returns t)
+    (resolve-enum-known-found t)
+    (resolve-enum-told t)
+    (resolve-finished-requires t)
+    (resolve-same-length-2 t)
+    (resolve-returns-2 t)
+    (resolve-read-mark-requires t)
+    (resolve-put-or-open-requires t)
+    (resolve-array-share-prefix-bytes t)
+    (resolve-slice-aggregate-its-folder t)
+    (resolve-sub-its-text t)
+    (resolve-part-its-text-start t)
+    (resolve-part-its-text-end t)
+    (resolve-sub-resolve t)
+    (resolve-resolve-requires t)
+    (resolve-newline-requires t)
+    (resolve-refused-requires-2 t)
+    (resolve-same-length-3 t)
+    (resolve-returns-3 t)
+    (resolve-loop-less t)
+    (resolve-loop-again t)
