@@ -168,20 +168,22 @@ module _ (s run : List ℕ) (f : Found) (told : (r : Records) → s ≡ encode r
   reference-none {room} {p} {b} e k i = rw (no-text s _ f (gives-run i) e k) (put-none room b p)
 
 -- EXPRESSIONS. A round of one, by what the scans said.
-module _ (look : List ℕ → List ℕ) (t : List ℕ) (i j : ℕ) (l : Spans lineBlank t i j) where
-  round-literal : (k : ℕ) (a : List ℕ) → Sees (the "\"") t j true → literal (drop (j + 1) t) .1 ≡ drop k t → expressionRound look a (drop i t) ≡ plus look (a ++ literal (drop (j + 1) t) .0) (drop k t)
+module _ (look : List ℕ → List ℕ) (t : List ℕ) (i : ℕ) (l : Spans lineBlank t 0 i) where
+  round-literal : (k : ℕ) (a : List ℕ) → Sees (the "\"") t i true → literal (drop (i + 1) t) .1 ≡ drop k t → expressionRound look a t ≡ plus look (a ++ literal (drop (i + 1) t) .0) (drop k t)
   unfolding expressionRound _>>=_ _>>_ ifR
-  round-literal k a q e = rw (l .rest, q .says, skip-at t j (q .there refl), e) refl
+  round-literal k a q e = rw (l .rest, q .says, skip-at t i (q .there refl), e) refl
 
-  round-reference : (k : ℕ) (a : List ℕ) → Sees (the "\"") t j false → Sees (either "_" letter) t j true → Spans runByte t j k →
-      expressionRound look a (drop i t) ≡ plus look (a ++ look (underscored (take (k - j) (drop j t)))) (drop k t)
+  round-reference : (k : ℕ) (a : List ℕ) → Sees (the "\"") t i false → Sees (either "_" letter) t i true → Spans runByte t i k →
+      expressionRound look a t ≡ plus look (a ++ look (underscored (take (k - i) (drop i t)))) (drop k t)
   unfolding expressionRound reference _>>=_ _>>_ ifR ret
   round-reference k a q n r = rw (l .rest, q .says, n .says, r .took, r .rest) refl
 
-  round-stop : (a : List ℕ) → Sees (the "\"") t j false → Sees (either "_" letter) t j false → expressionRound look a (drop i t) ≡ (stop a, drop j t)
+  round-stop : (a : List ℕ) → Sees (the "\"") t i false → Sees (either "_" letter) t i false → expressionRound look a t ≡ (stop a, drop i t)
   unfolding expressionRound _>>=_ _>>_ ifR ret
   round-stop a q n = rw (l .rest, q .says, n .says) refl
 
+-- Behind a term.
+module _ (look : List ℕ → List ℕ) (t : List ℕ) (i j : ℕ) (l : Spans lineBlank t i j) where
   plus-again : (a : List ℕ) → Sees (the "+") t j true → plus look a (drop i t) ≡ (again a, drop (j + 1) t)
   unfolding plus _>>=_ _>>_ ifR ret
   plus-again a q = rw (l .rest, q .says, skip-at t j (q .there refl)) refl
@@ -191,40 +193,37 @@ module _ (look : List ℕ → List ℕ) (t : List ℕ) (i j : ℕ) (l : Spans li
   plus-stop a q = rw (l .rest, q .says) refl
 
 -- The ways through a round.
-module _ (look : List ℕ → List ℕ) {room : ℕ} {t : List ℕ} {i j : ℕ} (l : Spans lineBlank t i j) {f : Bool} (q : Sees (the "\"") t j f) {b : List ℕ} {p : ℕ} where
-  pub term-literal : {c : List ℕ} {k r : ℕ} → f ≡ true → Wrote room (literal (take (length t - (j + 1)) (drop (j + 1) t))) (take (length t - (j + 1)) (drop (j + 1) t)) b p c k r → IsTerm look room true t i b p c (j + 1 + k) r
+module _ (look : List ℕ → List ℕ) {room : ℕ} {t : List ℕ} {i : ℕ} (l : Spans lineBlank t 0 i) {f : Bool} (q : Sees (the "\"") t i f) {b : List ℕ} {p : ℕ} where
+  pub term-literal : {c : List ℕ} {k r : ℕ} → f ≡ true → Wrote room (literal (take (length t - (i + 1)) (drop (i + 1) t))) (take (length t - (i + 1)) (drop (i + 1) t)) b p c k r → IsTerm look room true t b p c (i + 1 + k) r
   term-literal {c} {k} {r} e w =
-      let h : j < length t = q .there e in
-      let v : Wrote room (literal (drop (j + 1) t)) (drop (j + 1) t) b p c k r = rw tail-part at w in
-      let z : literal (drop (j + 1) t) .1 ≡ drop (j + 1 + k) t = v .rest ∙ drop-drop k (j + 1) t in
+      let h : i < length t = q .there e in
+      let v : Wrote room (literal (drop (i + 1) t)) (drop (i + 1) t) b p c k r = rw tail-part at w in
+      let z : literal (drop (i + 1) t) .1 ≡ drop (i + 1 + k) t = v .rest ∙ drop-drop k (i + 1) t in
       record {
-        on = omega (arith, l .on);
         inside = omega (arith, simp length-drop at (v .inside));
-        text = literal (drop (j + 1) t) .0;
+        text = literal (drop (i + 1) t) .0;
         put = v .put;
-        goes = λ u a. round-literal look t i j l (j + 1 + k) a (seen q e) z;
+        goes = λ u a. round-literal look t i l (i + 1 + k) a (seen q e) z;
         stops = λ u a. absurd (true≢false u);
       }
 
-  module _ {g : Bool} (e : f ≡ false) (n : Sees (either "_" letter) t j g) where
-    pub term-reference : {c : List ℕ} {k r : ℕ} → g ≡ true → Spans runByte t j k → Put room b p (look (underscored (take (k - j) (drop j t)))) c r → IsTerm look room true t i b p c k r
+  module _ {g : Bool} (e : f ≡ false) (n : Sees (either "_" letter) t i g) where
+    pub term-reference : {c : List ℕ} {k r : ℕ} → g ≡ true → Spans runByte t i k → Put room b p (look (underscored (take (k - i) (drop i t)))) c r → IsTerm look room true t b p c k r
     term-reference {c} {k} {r} d m u = record {
-      on = omega (arith, l .on, m .on);
       inside = m .inside;
-      text = look (underscored (take (k - j) (drop j t)));
+      text = look (underscored (take (k - i) (drop i t)));
       put = u;
-      goes = λ v a. round-reference look t i j l k a (seen q e) (seen n d) m;
+      goes = λ v a. round-reference look t i l k a (seen q e) (seen n d) m;
       stops = λ v a. absurd (true≢false v);
     }
 
-    pub term-stop : g ≡ false → IsTerm look room false t i b p b j p
+    pub term-stop : g ≡ false → IsTerm look room false t b p b i p
     term-stop d = record {
-      on = l .on;
       inside = l .inside;
       text = [];
       put = put-none room b p;
       goes = λ v a. absurd (true≢false (sym v));
-      stops = λ v a. rw append-nil (round-stop look t i j l a (seen q e) (seen n d));
+      stops = λ v a. rw append-nil (round-stop look t i l a (seen q e) (seen n d));
     }
 
 -- An expression is read up to i.
@@ -244,21 +243,31 @@ module _ {look : List ℕ → List ℕ} {room : ℕ} {t b : List ℕ} {p : ℕ} 
       let z = x .left ∙ rounds-stop (expressionRound look) (λ a. a) (expression-moving look) (x .text) _ (drop i t) (ap (λ y. y .0) e) ∙ ap (λ y. (x .text ++ v, y .1)) e in
       record { inside = h; rest = ap (λ y. y .1) z; put = rw z (put-then (x .put) l (w .place) u) }
 
-  module _ {f : Bool} {d : List ℕ} {j r : ℕ} (m : IsTerm look room f t i c q d j r) where
-    pub expression-none : f ≡ false → Wrote room (expression look t) t b p d j r
-    expression-none e = expression-done (m .text) (m .inside) (m .put) (m .stops e (x .text))
+  -- A term of k bytes of the text from i on.
+  module _ {f : Bool} {d : List ℕ} {k r : ℕ} (M : IsTerm look room f (take (length t - i) (drop i t)) c q d k r) where
+    here : IsTerm look room f (drop i t) c q d k r
+    here = rw tail-part at M
 
-    module _ {k : ℕ} (e : f ≡ true) (n : Spans lineBlank t j k) where
-      pub expression-last : Sees (the "+") t k false → Wrote room (expression look t) t b p d k r
-      expression-last o = expression-done (m .text) (n .inside) (m .put) (m .goes e (x .text) ∙ plus-stop look t j k n _ o)
+    pub term-inside : i + k ≤ length t
+    term-inside = omega (arith, simp length-drop at (here .inside), x .inside)
 
-      pub expression-again : Sees (the "+") t k true → ExpressionAt look room t b p d r (k + 1)
+    goes : f ≡ true → expressionRound look (x .text) (drop i t) ≡ plus look (x .text ++ here .text) (drop (i + k) t)
+    goes e = here .goes e (x .text) ∙ ap (plus look (x .text ++ here .text)) (drop-drop k i t)
+
+    pub expression-none : f ≡ false → Wrote room (expression look t) t b p d (i + k) r
+    expression-none e = expression-done (here .text) term-inside (here .put) (here .stops e (x .text) ∙ ap (λ z. (stop (x .text ++ here .text), z)) (drop-drop k i t))
+
+    module _ {j : ℕ} (e : f ≡ true) (n : Spans lineBlank t (i + k) j) where
+      pub expression-last : Sees (the "+") t j false → Wrote room (expression look t) t b p d j r
+      expression-last o = expression-done (here .text) (n .inside) (here .put) (goes e ∙ plus-stop look t (i + k) j n _ o)
+
+      pub expression-again : Sees (the "+") t j true → ExpressionAt look room t b p d r (j + 1)
       expression-again o =
-          let g = m .goes e (x .text) ∙ plus-again look t j k n _ o in
+          let g = goes e ∙ plus-again look t (i + k) j n _ o in
           let z = rounds-again (expressionRound look) (λ a. a) (expression-moving look) (x .text) _ (drop i t) (ap (λ y. y .0) g) in
           record {
             inside = omega (arith, o .there refl);
-            text = x .text ++ m .text;
-            put = put-then (x .put) l (w .place) (m .put);
-            left = x .left ∙ z ∙ ap (λ y. rounds (expressionRound look) (λ a. a) (x .text ++ m .text) (y .1)) g;
+            text = x .text ++ here .text;
+            put = put-then (x .put) l (w .place) (here .put);
+            left = x .left ∙ z ∙ ap (λ y. rounds (expressionRound look) (λ a. a) (x .text ++ here .text) (y .1)) g;
           }

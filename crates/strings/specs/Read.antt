@@ -14,11 +14,10 @@ pub record Wrote (room : ℕ) (v : List ℕ × List ℕ) (t b : List ℕ) (p : �
   pub rest : v .1 ≡ drop k t
   pub put : Put room b p (v .0) c q
 
--- A round of an expression up to its `+`. Found: a text is put and reading goes on at j; else the round stops at j.
-pub record IsTerm (look : List ℕ → List ℕ) (room : ℕ) (found : Bool) (t : List ℕ) (i : ℕ) (b : List ℕ) (p : ℕ) (c : List ℕ) (j q : ℕ) : Type 0 where
-  pub on : i ≤ j
-  pub inside : j ≤ length t
+-- A round of an expression up to its `+`. Found: a text is put and reading goes on behind k bytes; else the round stops there.
+pub record IsTerm (look : List ℕ → List ℕ) (room : ℕ) (found : Bool) (t b : List ℕ) (p : ℕ) (c : List ℕ) (k q : ℕ) : Type 0 where
+  pub inside : k ≤ length t
   pub text : List ℕ
   pub put : Put room b p text c q
-  pub goes : found ≡ true → (a : List ℕ) → expressionRound look a (drop i t) ≡ plus look (a ++ text) (drop j t)
-  pub stops : found ≡ false → (a : List ℕ) → expressionRound look a (drop i t) ≡ (stop (a ++ text), drop j t)
+  pub goes : found ≡ true → (a : List ℕ) → expressionRound look a t ≡ plus look (a ++ text) (drop k t)
+  pub stops : found ≡ false → (a : List ℕ) → expressionRound look a t ≡ (stop (a ++ text), drop k t)

@@ -82,24 +82,24 @@ pub fn reference(sheet: &[u8], run: &[u8], out: &mut [u8], room: usize, p: usize
     }
 }
 
-// What a round of an expression comes to: is there a term, where reading goes on, where the writer goes on.
+// What a round of an expression comes to: is there a term, how many bytes were read, where the writer goes on.
 pub struct Round {
     pub found: bool,
-    pub at: usize,
+    pub used: usize,
     pub next: usize,
 }
 
-// Reads a round of an expression from a place up to its `+`, and puts its text.
-fn term(text: &[u8], at: usize, sheet: &[u8], out: &mut [u8], room: usize, p: usize) -> Round
-    requires { ⌜ (at ≤ length (now text)) × Writer room p × (length (now out) ≤ room) × IsSheet (now sheet) ⌝ }
-    ensures { λ r. ⌜ ((s : IsSheet (now (sheet .entry))) → IsTerm (resolveString (s .r)) room (r .found) (now (text .entry)) at (now (out .entry)) p (now (out .exit)) (r .at) (r .next)) ⌝ }
+// Reads a round of an expression up to its `+`, and puts its text.
+fn term(text: &[u8], sheet: &[u8], out: &mut [u8], room: usize, p: usize) -> Round
+    requires { ⌜ Writer room p × (length (now out) ≤ room) × IsSheet (now sheet) ⌝ }
+    ensures { λ r. ⌜ ((s : IsSheet (now (sheet .entry))) → IsTerm (resolveString (s .r)) room (r .found) (now (text .entry)) (now (out .entry)) p (now (out .exit)) (r .used) (r .next)) ⌝ }
 {
-    let i = scan::span(text, at, scan::Set::LineBlank);
+    let i = scan::span(text, 0, scan::Set::LineBlank);
     if scan::at(text, i, b'"') {
         let s = literal(&text[i + 1..], out, room, p);
         return Round {
             found: true,
-            at: i + 1 + s.used,
+            used: i + 1 + s.used,
             next: s.next,
         };
     }
@@ -108,13 +108,13 @@ fn term(text: &[u8], at: usize, sheet: &[u8], out: &mut [u8], room: usize, p: us
         let q = reference(sheet, &text[i..e], out, room, p);
         return Round {
             found: true,
-            at: e,
+            used: e,
             next: q,
         };
     }
     Round {
         found: false,
-        at: i,
+        used: i,
         next: p,
     }
 }
@@ -127,15 +127,13 @@ pub fn expression(text: &[u8], sheet: &[u8], out: &mut [u8], room: usize, p: usi
     let mut i: usize = 0;
     let mut q = p;
     loop {
-        let t = term(text, i, sheet, out, room, q);
+        let t = term(&text[i..], sheet, out, room, q);
         q = t.next;
+        i += t.used;
         if !t.found {
-            return Read {
-                used: t.at,
-                next: q,
-            };
+            return Read { used: i, next: q };
         }
-        i = scan::span(text, t.at, scan::Set::LineBlank);
+        i = scan::span(text, i, scan::Set::LineBlank);
         if !scan::at(text, i, b'+') {
             return Read { used: i, next: q };
         }

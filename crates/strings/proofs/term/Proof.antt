@@ -8,9 +8,9 @@ use Rattle.scan.proofs.sees.Reads as sees-reads
 use Rattle.scan.proofs.span.Reads as span-reads
 use Rattle.strings.proofs.literal.Reads as literal-reads
 use Rattle.strings.proofs.reference.Reads as reference-reads
-use mathlib.Core.Path.{_≡_, refl, sym, ap, _∙_}
+use mathlib.Core.Path.{refl}
 use native.Mathlib.Omega.{arith}
-use lib.ListN.{length, length-take, length-drop}
+use lib.ListN.{length-take, length-drop}
 use Rattle.buffers.specs.Laws.{put-length}
 use Rattle.scan.specs.Laws.{sees-the}
 use Rattle.strings.specs.Laws.{term-literal, term-reference, term-stop}
@@ -25,32 +25,22 @@ add-literal : tie.Need-add-literal
 add-literal c = search needs
 
 sub-literal : tie.Need-sub-literal
-sub-literal c =
-    let h = c .before .at .ensures .there (c .if1 .taken) in
-    search needs
+sub-literal c = let h = c .before .at .ensures .there (c .if1 .taken) in search needs
 
 part-literal-start : tie.Need-part-literal-start
-part-literal-start c =
-    let h = c .before .at .ensures .there (c .if1 .taken) in
-    search needs
+part-literal-start c = let h = c .before .at .ensures .there (c .if1 .taken) in search needs
 
 part-literal-end : tie.Need-part-literal-end
-part-literal-end c =
-    let h = c .before .at .ensures .there (c .if1 .taken) in
-    search needs
+part-literal-end c = let h = c .before .at .ensures .there (c .if1 .taken) in search needs
 
 literal-requires : tie.Need-literal-requires
-literal-requires c κs = (c .before .before .before .before .before .before .before .before .pre .1, c .before .before .before .before .before .before .before .before .pre .2)
+literal-requires c κs = (c .before .before .before .before .before .before .before .before .pre .0, c .before .before .before .before .before .before .before .before .pre .1)
 
-add-t13 : tie.Need-add-t13
-add-t13 c =
-    let h = c .before .before .before .before .before .before .at .ensures .there (c .before .before .before .before .before .if1 .taken) in
-    search needs
+add-t12 : tie.Need-add-t12
+add-t12 c = let h = c .before .before .before .before .before .before .at .ensures .there (c .before .before .before .before .before .if1 .taken) in search needs
 
-add-t15 : tie.Need-add-t15
-add-t15 c =
-    let h = c .before .before .before .before .before .before .before .at .ensures .there (c .before .before .before .before .before .before .if1 .taken) in
-    omega (arith, simp (length-take, length-drop) at (c .before .before .before .literal .ensures .inside))
+add-t14 : tie.Need-add-t14
+add-t14 c = let h = c .before .before .before .before .before .before .before .at .ensures .there (c .before .before .before .before .before .before .if1 .taken) in omega (arith, simp (length-take, length-drop) at (c .before .before .before .literal .ensures .inside))
 
 same-length : tie.Need-same-length
 same-length c = put-length (c .before .before .before .literal .ensures .put)
@@ -74,10 +64,10 @@ part-reference-end : tie.Need-part-reference-end
 part-reference-end c = search needs
 
 reference-requires : tie.Need-reference-requires
-reference-requires c κs = (c .before .before .before .before .before .before .before .before .before .before .before .pre .1, c .before .before .before .before .before .before .before .before .before .before .before .pre .3)
+reference-requires c κs = (c .before .before .before .before .before .before .before .before .before .before .before .pre .0, c .before .before .before .before .before .before .before .before .before .before .before .pre .2)
 
 same-length-2 : tie.Need-same-length-2
-same-length-2 c = put-length (c .before .before .reference .ensures (c .before .before .before .before .before .before .before .before .before .before .before .before .before .before .pre .3))
+same-length-2 c = put-length (c .before .before .reference .ensures (c .before .before .before .before .before .before .before .before .before .before .before .before .before .before .pre .2))
 
 returns-2 : tie.Need-returns-2
 returns-2 c = λ s. term-reference _ (c .before .before .before .before .before .before .before .before .before .before .span .ensures) (sees-the "\"" (c .before .before .before .before .before .before .before .before .before .at .ensures) refl) (c .before .before .before .before .before .before .before .before .if1 .left) (c .before .before .before .before .before .before .before .sees .ensures) (c .before .before .before .before .before .before .if2 .taken) (c .before .before .before .before .before .span2 .ensures) (c .before .before .reference .ensures s)
@@ -96,8 +86,8 @@ term-spec =
     part-literal-start
     part-literal-end
     literal-requires
-    add-t13
-    add-t15
+    add-t12
+    add-t14
     same-length
     returns
     sees-requires
