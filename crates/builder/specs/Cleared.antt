@@ -10,7 +10,7 @@ use Rattle.rules.specs.Calls.{zeros, padded, resolveIncludesOf, preprocessTypst
 use Rattle.runs.specs.declared.Outcome.{Outcome}
 use Rattle.runs.specs.Includes.{ResolvesText}
 use Rattle.runs.specs.Expansion.{ExpandsText}
-use Rattle.runs.specs.Pass.{Passes}
+use Rattle.runs.specs.Pass.{settingOf, Passes}
 use Rattle.define.specs.declared.Outcome.{Outcome as Definition}
 use Rattle.define.specs.Define.{Defines}
 
@@ -37,6 +37,6 @@ definitions-cleared {l₂ = l₂} {w₂ = w₂} {r = r} d x y =
     d .is ∙ λ i. record { number = r .number; sheetLen = r .sheet; left = behind l₂ (r .sheet) (d .left-size) x i; work = all-zero w₂ (d .work-size) y i }
 
 pub pass-cleared : {b g t z m m₂ m₃ o o₂ o₃ l l₂ l₃ : List ℕ} {r : Outcome} → Passes b g t z m m₂ o o₂ l l₂ r → m₃ ≡ padded (length m₂) (take 0 m₂) → o₃ ≡ padded (length o₂) (take (r .len) o₂) → l₃ ≡ padded (length l₂) (take (r .sheet) l₂) →
-    passOf b g t z (length m) (length o) (length l) ≡ record { number = r .number; len = r .len; sheetLen = r .sheet; closed = r .closed; middle = m₃; out = o₃; left = l₃ }
+    passOf (settingOf b g (length m) (length o) (length l)) z t ≡ record { number = r .number; len = r .len; sheetLen = r .sheet; closed = r .closed; middle = m₃; out = o₃; left = l₃ }
 pass-cleared {m₂ = m₂} {o₂ = o₂} {l₂ = l₂} {r = r} p w x y =
     p .is ∙ λ i. record { number = r .number; len = r .len; sheetLen = r .sheet; closed = r .closed; middle = all-zero m₂ (p .middle-size) w i; out = behind o₂ (r .len) (p .out-size) x i; left = behind l₂ (r .sheet) (p .left-size) y i }

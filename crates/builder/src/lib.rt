@@ -197,7 +197,7 @@ pub fn pass(
     out: &mut [u8],
     left: &mut [u8],
 ) -> Passed
-    ensures { λ r. ⌜ passOf (now (bundle .entry)) (now (folder .entry)) (now (text .entry)) (now (sheet .entry)) (length (now (middle .entry))) (length (now (out .entry))) (length (now (left .entry))) ≡ record { number = r .number; len = r .len; sheetLen = r .sheet; closed = r .closed; middle = now (middle .exit); out = now (out .exit); left = now (left .exit) } ⌝ }
+    ensures { λ r. ⌜ passOf (record { bundle = now (bundle .entry); folder = now (folder .entry); middleLen = length (now (middle .entry)); outLen = length (now (out .entry)); leftLen = length (now (left .entry)) }) (now (sheet .entry)) (now (text .entry)) ≡ record { number = r .number; len = r .len; sheetLen = r .sheet; closed = r .closed; middle = now (middle .exit); out = now (out .exit); left = now (left .exit) } ⌝ }
 {
     let p = runs::pass_call::pass(bundle, folder, text, sheet, middle, out, left);
     buffers::clear_from(middle, 0);

@@ -12,8 +12,7 @@ use Rattle.rules.specs.Reader.{bytes}
 use Rattle.rules.specs.Bundle.{bundleOf}
 use Rattle.rules.specs.Files.{view, fetch}
 use Rattle.rules.specs.Calls.{zeros, padded, findFileOf, parseDefinitionsOf, passOf}
-use Rattle.rules.specs.Parts.{pass}
-use Rattle.rules.specs.Manual.{decimal, answered, sheetFrom, outputFrom, built, shown, manual, manualOf}
+use Rattle.rules.specs.Manual.{decimal, answered, sheetFrom, outputFrom, setting, built, shown, manual, manualOf}
 use Rattle.rules.specs.Laws.Calls.{parseDefinitions-holds, pass-holds}
 use Rattle.rules.specs.Laws.Found.{contentFrom, content-refused, content-absent, content-there, found-content, found-inside}
 use Rattle.rules.specs.Laws.Manual.{manual-holds}
@@ -22,7 +21,7 @@ use Rattle.manual_text.specs.declared.Built.{Built}
 
 -- What follows the definitions, from the sheet s on.
 unfoldable pub mainText : List ℕ → List ℕ → Answer (List ℕ)
-mainText b s = orRefuse 2 (bundleOf b) >>= λ es. fetch (view es) (bytes "main.typ") >>= λ t. outputFrom (passOf b [] t s 32768 32768 1024)
+mainText b s = orRefuse 2 (bundleOf b) >>= λ es. fetch (view es) (bytes "main.typ") >>= λ t. outputFrom (passOf (setting b) s t)
 
 -- a is built: its text stands at the start of the buffer, and zero behind it; or its number is answered.
 pub record Builds (a : Answer (List ℕ)) (out out₂ : List ℕ) (r : Built) : Type 0 where
@@ -60,22 +59,22 @@ builds-same e s = record { size = s .size; fits = s .fits; says = e ∙ s .says;
 
 -- THE PASS.
 pub pass-builds : (b t s : List ℕ) {m n l : ℕ} {o m₂ o₂ l₂ : List ℕ} {k x z : ℕ} {c : Bool} → 32768 ≡ m → 32768 ≡ n → 1024 ≡ l → n ≡ length o →
-    passOf b [] t s m n l ≡ record { number = k; len = x; sheetLen = z; closed = c; middle = m₂; out = o₂; left = l₂ } →
-    Builds (outputFrom (passOf b [] t s 32768 32768 1024)) o o₂ (record { number = k; len = x })
-unfolding outputFrom pass
+    passOf (record { bundle = b; folder = []; middleLen = m; outLen = n; leftLen = l }) s t ≡ record { number = k; len = x; sheetLen = z; closed = c; middle = m₂; out = o₂; left = l₂ } →
+    Builds (outputFrom (passOf (setting b) s t)) o o₂ (record { number = k; len = x })
+unfolding outputFrom
 pass-builds b t s {m} {n} {l} {o} {x = x} e₁ e₂ e₃ e₄ e =
     let h = rw e at (pass-holds (record { bundle = b; folder = []; middleLen = m; outLen = n; leftLen = l }) s t .output) in
     record {
       size = h .size ∙ e₄;
       fits = omega (arith, h .fits);
-      says = (λ i. outputFrom (passOf b [] t s (e₁ i) (e₂ i) (e₃ i))) ∙ ap outputFrom e;
+      says = (λ i. outputFrom (passOf (record { bundle = b; folder = []; middleLen = e₁ i; outLen = e₂ i; leftLen = e₃ i }) s t)) ∙ ap outputFrom e;
       behind = λ z. h .behind ∙ ap (λ i. zeros (i - x)) (sym (h .size));
     }
 
 -- The file.
 module _ (b s : List ℕ) {k kind i n : ℕ} (f : findFileOf b (bytes "main.typ") ≡ record { number = k; kind = kind; start = i; len = n }) where
   abbrev Then : Answer (List ℕ) → Answer (List ℕ)
-  Then a = a >>= λ t. outputFrom (passOf b [] t s 32768 32768 1024)
+  Then a = a >>= λ t. outputFrom (passOf (setting b) s t)
 
   as-found : mainText b s ≡ Then (contentFrom b (record { number = k; kind = kind; start = i; len = n }))
   unfolding mainText
@@ -90,11 +89,11 @@ module _ (b s : List ℕ) {k kind i n : ℕ} (f : findFileOf b (bytes "main.typ"
     unfolding _>>=_
     main-absent h = as-found ∙ ap Then (content-absent b _ e h)
 
-    pub main-there : kind ≡ 2 → mainText b s ≡ outputFrom (passOf b [] (take (i + n - i) (drop i b)) s 32768 32768 1024)
+    pub main-there : kind ≡ 2 → mainText b s ≡ outputFrom (passOf (setting b) s (take (i + n - i) (drop i b)))
     unfolding _>>=_
     main-there h =
         let z : n ≡ i + n - i = omega arith in
-        as-found ∙ ap Then (content-there b _ e h) ∙ (ap (λ x. outputFrom (passOf b [] (take x (drop i b)) s 32768 32768 1024)) z)
+        as-found ∙ ap Then (content-there b _ e h) ∙ (ap (λ x. outputFrom (passOf (setting b) s (take x (drop i b)))) z)
 
 pub main-inside : (b : List ℕ) {k kind i n : ℕ} → findFileOf b (bytes "main.typ") ≡ record { number = k; kind = kind; start = i; len = n } → i + n ≤ length b
 main-inside b f = rw f at (found-inside b (bytes "main.typ"))

@@ -1,10 +1,9 @@
 // What the program `manual` writes (document 01, section 10): the definitions of `defs.typ`, then a pass over `main.typ`.
 ghost use mathlib.Core.Path.{_≡_};
-ghost use mathlib.Core.List.{[]};
 ghost use lib.ListN.{length};
 ghost use Rattle.rules.specs.Answer.{refused};
 ghost use Rattle.rules.specs.Calls.{passOf};
-ghost use Rattle.rules.specs.Manual.{outputFrom, built, shown, manualOf};
+ghost use Rattle.rules.specs.Manual.{outputFrom, setting, built, shown, manualOf};
 ghost use Rattle.manual_text.specs.Text.{mainText, Builds, Shows};
 
 // What was built: number 0 and the length of the text in the output buffer, or the refusal's number.
@@ -35,7 +34,7 @@ fn text_buffer() -> [u8; 32768]
 // A pass over a text of the bundle, folder empty, from a sheet.
 fn pass_over(bundle: &[u8], text: &[u8], sheet: &[u8], out: &mut [u8]) -> Built
     requires { ⌜ 32768 ≡ length (now out) ⌝ }
-    ensures { λ r. ⌜ Builds (outputFrom (passOf (now (bundle .entry)) [] (now (text .entry)) (now (sheet .entry)) 32768 32768 1024)) (now (out .entry)) (now (out .exit)) r ⌝ }
+    ensures { λ r. ⌜ Builds (outputFrom (passOf (setting (now (bundle .entry))) (now (sheet .entry)) (now (text .entry)))) (now (out .entry)) (now (out .exit)) r ⌝ }
 {
     let mut middle = text_buffer();
     let mut left = sheet_buffer();

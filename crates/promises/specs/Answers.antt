@@ -16,13 +16,13 @@ use Rattle.rules.specs.Reader.{bytes, all}
 use Rattle.rules.specs.Run.{ok, put, fail, andThen, unrefused}
 use Rattle.rules.specs.Bytes.{ascii, isPath, isFolder, parent}
 use Rattle.rules.specs.Bundle.{Entry, bundleOf}
-use Rattle.rules.specs.Calls.{limit, zeros, padded, Holds, resolveResult, resolveOf, kindAnswer, Kind, resolveStringResult, resolveStringOf, outputAnswer, Output, findFileOf, foundAnswer, Found, resolveIncludesResult, resolveIncludesOf, preprocessTypstResult, preprocessTypstOf, expandedAnswer, Expanded, parseDefinitionsResult, parseDefinitionsOf, definedAnswer, Defined, passResult, passOf, passedAnswer, Passed, closedOf}
+use Rattle.rules.specs.Calls.{Setting, limit, zeros, padded, Holds, resolveResult, resolveOf, kindAnswer, resolveStringResult, resolveStringOf, outputAnswer, findFileOf, foundAnswer, resolveIncludesResult, resolveIncludesOf, preprocessTypstResult, preprocessTypstOf, expandedAnswer, parseDefinitionsResult, parseDefinitionsOf, definedAnswer, passResult, passOf, passedAnswer, closedOf}
 use Rattle.rules.specs.Files.{View, view, fetch, opened}
 use Rattle.rules.specs.Sheet.{Records, sheetOf}
 use Rattle.rules.specs.Includes.{includeStep, insideFile}
 use Rattle.rules.specs.Expansion.{expansionStep}
 use Rattle.rules.specs.Manual.{built, shown, manual, manualOf}
-use Rattle.rules.specs.Parts.{Setting, pass, isClosed, sheetLeft}
+use Rattle.rules.specs.Parts.{sheetLeft}
 use Rattle.rules.specs.Laws.Calls.{refused-form, number-form, parseDefinitions-holds, parseDefinitions-work, parseDefinitions-sheet, resolve-numbered, resolveString-numbered, resolveIncludes-numbered, preprocessTypst-numbered, parseDefinitions-numbered, resolveString-holds, resolveIncludes-holds, preprocessTypst-holds, preprocessTypst-sheet, pass-holds, pass-middle, pass-closed, find-refused, find-known, pass-sheet}
 use Rattle.rules.specs.Laws.Found.{found-there, found-inside}
 use Rattle.rules.specs.Laws.Manual.{manual-holds}
@@ -31,7 +31,7 @@ use Rattle.rules.specs.Laws.Order.{resolve-order, resolveString-order, findFile
 use Rattle.rules.specs.Laws.Once.{refused-alone, expansion-once, include-step-whole}
 
 -- CLOSED. The answer says closed exactly when the pass is accepted and the text is closed.
-pub closed-exactly : (k : Setting) (sheet text : List ℕ) → (pass k sheet text .closed ≡ true) ↔ ((pass k sheet text .number ≡ 0) × (isClosed k sheet text ≡ true))
+pub closed-exactly : (k : Setting) (sheet text : List ℕ) → (passOf k sheet text .closed ≡ true) ↔ ((passOf k sheet text .number ≡ 0) × (closedOf k sheet text ≡ true))
 closed-exactly k sheet text = pass-closed k sheet text
 
 -- REFUSED: the number, every length zero, kind missing, not closed, every writable buffer zero.
@@ -57,11 +57,10 @@ pub parse-definitions-refused : (bundle path : List ℕ) (l w : ℕ) → let r =
 unfolding parseDefinitionsOf definedAnswer
 parse-definitions-refused bundle path l w h = refused-form (definedAnswer l w) (λ r. r .number) (λ k. refl) (λ a. refl) (parseDefinitionsResult bundle path l w) h
 
-pub pass-refused : (bundle folder text sheet : List ℕ) (m n l : ℕ) → let r = passOf bundle folder text sheet m n l in
-    r .number ≢ 0 → r ≡ record { number = r .number; len = 0; sheetLen = 0; closed = false; middle = zeros m; out = zeros n; left = zeros l }
+pub pass-refused : (k : Setting) (sheet text : List ℕ) → let r = passOf k sheet text in
+    r .number ≢ 0 → r ≡ record { number = r .number; len = 0; sheetLen = 0; closed = false; middle = zeros (k .middleLen); out = zeros (k .outLen); left = zeros (k .leftLen) }
 unfolding passOf passedAnswer
-pass-refused bundle folder text sheet m n l h =
-    refused-form (passedAnswer m n l (closedOf bundle folder text sheet)) (λ r. r .number) (λ k. refl) (λ a. refl) (passResult bundle folder text sheet m n l) h
+pass-refused k sheet text h = refused-form (passedAnswer k (closedOf k sheet text)) (λ r. r .number) (λ n. refl) (λ a. refl) (passResult k sheet text) h
 
 pub find-file-refused : (bundle path : List ℕ) → let r = findFileOf bundle path in r .number ≢ 0 → r ≡ record { number = r .number; kind = 0; start = 0; len = 0 }
 unfolding findFileOf
@@ -82,14 +81,14 @@ resolve-includes-written bundle folder text n = resolveIncludes-holds bundle fol
 pub preprocess-typst-written : (bundle text sheet : List ℕ) (n l : ℕ) → let r = preprocessTypstOf bundle text sheet n l in Holds n (r .len) (r .out) × Holds l (r .sheetLen) (r .left)
 preprocess-typst-written bundle text sheet n l = let h = preprocessTypst-holds bundle text sheet n l in (h .output, h .sheet)
 
-pub pass-written : (k : Setting) (sheet text : List ℕ) → let r = pass k sheet text in Holds (k .outLen) (r .len) (r .out) × Holds (k .leftLen) (r .sheetLen) (r .left) × (r .middle ≡ zeros (k .middleLen))
+pub pass-written : (k : Setting) (sheet text : List ℕ) → let r = passOf k sheet text in Holds (k .outLen) (r .len) (r .out) × Holds (k .leftLen) (r .sheetLen) (r .left) × (r .middle ≡ zeros (k .middleLen))
 pass-written k sheet text = let h = pass-holds k sheet text in (h .output, h .sheet, pass-middle k sheet text)
 
 pub parse-definitions-written : (bundle path : List ℕ) (l w : ℕ) → let r = parseDefinitionsOf bundle path l w in Holds l (r .sheetLen) (r .left) × (r .work ≡ zeros w)
 parse-definitions-written bundle path l w = (parseDefinitions-holds bundle path l w, parseDefinitions-work bundle path l w)
 
 -- LEFT: the sheet that an accepted call leaves keeps the layout and L, so a pass can start from it.
-pub pass-leaves : (k : Setting) (sheet text : List ℕ) → let r = pass k sheet text in r .number ≡ 0 → (s : Records) × (sheetOf (sheetLeft r) ≡ some s) × (length (sheetLeft r) ≤ limit (k .leftLen))
+pub pass-leaves : (k : Setting) (sheet text : List ℕ) → let r = passOf k sheet text in r .number ≡ 0 → (s : Records) × (sheetOf (sheetLeft r) ≡ some s) × (length (sheetLeft r) ≤ limit (k .leftLen))
 pass-leaves k sheet text h = let s = pass-sheet k sheet text h in (s .records, s .keeps-layout, s .fits)
 
 pub preprocess-typst-leaves : (bundle text sheet : List ℕ) (n l : ℕ) → let r = preprocessTypstOf bundle text sheet n l in
@@ -110,17 +109,16 @@ pub numbers :
     × ((bundle folder text : List ℕ) (n : ℕ) → known (resolveIncludesOf bundle folder text n .number) ≡ true)
     × ((bundle text sheet : List ℕ) (n l : ℕ) → known (preprocessTypstOf bundle text sheet n l .number) ≡ true)
     × ((bundle path : List ℕ) (l w : ℕ) → known (parseDefinitionsOf bundle path l w .number) ≡ true)
-    × ((k : Setting) (sheet text : List ℕ) → known (pass k sheet text .number) ≡ true)
+    × ((k : Setting) (sheet text : List ℕ) → known (passOf k sheet text .number) ≡ true)
     × ((bundle path : List ℕ) → known (findFileOf bundle path .number) ≡ true)
-unfolding known resolveOf kindAnswer resolveStringOf outputAnswer resolveIncludesOf preprocessTypstOf expandedAnswer parseDefinitionsOf definedAnswer pass passOf passedAnswer
+unfolding known resolveOf kindAnswer resolveStringOf outputAnswer resolveIncludesOf preprocessTypstOf expandedAnswer parseDefinitionsOf definedAnswer passOf passedAnswer
 numbers = (
   λ s p. number-form kindAnswer (λ r. r .number) (λ k. refl) (λ a. refl) (resolveResult s p) (resolve-numbered s p),
   λ s p n. number-form (outputAnswer n) (λ r. r .number) (λ k. refl) (λ a. refl) (resolveStringResult s p n) (resolveString-numbered s p n),
   λ b g t n. number-form (outputAnswer n) (λ r. r .number) (λ k. refl) (λ a. refl) (resolveIncludesResult b g t n) (resolveIncludes-numbered b g t n),
   λ b t s n l. number-form (expandedAnswer n l) (λ r. r .number) (λ k. refl) (λ a. refl) (preprocessTypstResult b t s n l) (preprocessTypst-numbered b t s n l),
   λ b p l w. number-form (definedAnswer l w) (λ r. r .number) (λ k. refl) (λ a. refl) (parseDefinitionsResult b p l w) (parseDefinitions-numbered b p l w),
-  λ k s t. number-form (passedAnswer (k .middleLen) (k .outLen) (k .leftLen) (closedOf (k .bundle) (k .folder) t s)) (λ r. r .number) (λ n. refl) (λ a. refl)
-      (passResult (k .bundle) (k .folder) t s (k .middleLen) (k .outLen) (k .leftLen)) (result-numbered k s t),
+  λ k s t. number-form (passedAnswer k (closedOf k s t)) (λ r. r .number) (λ n. refl) (λ a. refl) (passResult k s t) (result-numbered k s t),
   find-known,
 )
 
@@ -159,9 +157,9 @@ pub parse-definitions-first : (bundle path : List ℕ) (l w : ℕ) → let f = f
 unfolding parseDefinitionsOf definedAnswer
 parse-definitions-first bundle path l w h = rw (parseDefinitions-order bundle path l w .first h)
 
-pub pass-first : (k : Setting) (sheet text : List ℕ) → First (pass k sheet text .number)
+pub pass-first : (k : Setting) (sheet text : List ℕ) → First (passOf k sheet text .number)
     ((2, isSome (bundleOf (k .bundle))) ∷ (3, isSome (sheetOf sheet)) ∷ (4, isFolder (k .folder)) ∷ (6, all ascii text) ∷ (9, leb (length sheet) (limit (k .leftLen))) ∷ [])
-unfolding pass passOf passedAnswer
+unfolding passOf passedAnswer
 pass-first k sheet text h = rw (pass-order k sheet text .first h)
 
 -- READ WHOLE: a call or include mark is read whole, its file opened, before its first byte is output.

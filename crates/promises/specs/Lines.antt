@@ -7,7 +7,7 @@ use Prim.Native.Nat.{ℕ, _/_, _%_}
 use lib.ListN.{length, take}
 use Rattle.rules.specs.Reader.{bytes}
 use Rattle.rules.specs.Sheet.{text, nothing, dictionary, Records, end, rec, encode, sheetOf}
-use Rattle.rules.specs.Calls.{passOf, resolveIncludesOf, parseDefinitionsOf}
+use Rattle.rules.specs.Calls.{Setting, passOf, resolveIncludesOf, parseDefinitionsOf}
 use Rattle.rules.specs.Compute.{rules}
 
 -- The sheet x = `10`; a bundle with no file; a bundle with one file, whose name is one byte.
@@ -20,9 +20,12 @@ noFile = 0 ∷ 0 ∷ []
 unfoldable pub oneFile : ℕ → List ℕ → List ℕ
 oneFile name content = 1 ∷ 0 ∷ 6 ∷ 1 ∷ name ∷ length content % 256 ∷ length content / 256 ∷ content
 
--- A pass over t: its number, what it wrote, whether it says closed.
+-- A pass over t, no file, each buffer of 64 bytes: its number, what it wrote, whether it says closed.
+abbrev setting : Setting
+setting = record { bundle = noFile; folder = []; middleLen = 64; outLen = 64; leftLen = 64 }
+
 unfoldable pub document : List ℕ → ℕ × List ℕ × Bool
-document t = let r = passOf noFile [] t x-is-10 64 64 64 in (r .number, take (r .len) (r .out), r .closed)
+document t = let r = passOf setting x-is-10 t in (r .number, take (r .len) (r .out), r .closed)
 
 -- The include call over t, b holding `B`: its number, what it wrote.
 unfoldable pub withIncludes : List ℕ → ℕ × List ℕ

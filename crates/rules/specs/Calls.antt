@@ -156,7 +156,15 @@ parseDefinitionsResult bundle path l w = do
 unfoldable pub parseDefinitionsOf : List ℕ → List ℕ → ℕ → ℕ → Defined
 parseDefinitionsOf bundle path l w = definedAnswer l w (parseDefinitionsResult bundle path l w)
 
--- THE PASS: 2, 3, 4, 6, then 9 for the sheet given, then in reading. m, n, l: the lengths of `middle`, `out`, `left`.
+-- THE PASS: 2, 3, 4, 6, then 9 for the sheet given, then in reading.
+-- What it is given beside its sheet and its text: bundle, folder, the lengths of its middle, output and sheet buffers.
+pub record Setting : Type 0 where
+  pub bundle : List ℕ
+  pub folder : List ℕ
+  pub middleLen : ℕ
+  pub outLen : ℕ
+  pub leftLen : ℕ
+
 pub record Passed : Type 0 where
   pub number : ℕ
   pub len : ℕ
@@ -166,11 +174,6 @@ pub record Passed : Type 0 where
   pub out : List ℕ
   pub left : List ℕ
 
--- c: is the text closed.
-unfoldable pub passedAnswer : ℕ → ℕ → ℕ → Bool → Answer (List ℕ × Records) → Passed
-passedAnswer m n l c (refused k) = record { number = k; len = 0; sheetLen = 0; closed = false; middle = zeros m; out = zeros n; left = zeros l }
-passedAnswer m n l c (accepted x) = record { number = 0; len = length (x .0); sheetLen = length (encode (x .1)); closed = c; middle = zeros m; out = padded n (x .0); left = padded l (encode (x .1)) }
-
 -- Is the text closed, for a bundle, folder and sheet: none of 3, 4 and 6 for the arguments, and closed as section 6 says.
 -- A broken bundle is 2, not one of 3 to 8; nothing is closed for it.
 unfoldable pub closedIn : Option (List Entry) → List ℕ → Option Records → List ℕ → Bool
@@ -178,17 +181,23 @@ closedIn none folder s text = false
 closedIn (some es) folder none text = false
 closedIn (some es) folder (some s) text = isFolder folder && all ascii text && closed (view es) folder s text
 
-unfoldable pub closedOf : List ℕ → List ℕ → List ℕ → List ℕ → Bool
-closedOf bundle folder text sheet = closedIn (bundleOf bundle) folder (sheetOf sheet) text
+module _ (k : Setting) where
+  unfoldable pub closedOf : List ℕ → List ℕ → Bool
+  closedOf sheet text = closedIn (bundleOf (k .bundle)) (k .folder) (sheetOf sheet) text
 
-unfoldable pub passResult : List ℕ → List ℕ → List ℕ → List ℕ → ℕ → ℕ → ℕ → Answer (List ℕ × Records)
-passResult bundle folder text sheet m n l = do
-  es ← orRefuse 2 (bundleOf bundle)
-  s ← orRefuse 3 (sheetOf sheet)
-  check 4 (isFolder folder)
-  check 6 (all ascii text)
-  check 9 (leb (sheetLength s) (limit l))
-  passed (view es) (limit l) m n folder s text
+  -- c: is the text closed.
+  unfoldable pub passedAnswer : Bool → Answer (List ℕ × Records) → Passed
+  passedAnswer c (refused n) = record { number = n; len = 0; sheetLen = 0; closed = false; middle = zeros (k .middleLen); out = zeros (k .outLen); left = zeros (k .leftLen) }
+  passedAnswer c (accepted x) = record { number = 0; len = length (x .0); sheetLen = length (encode (x .1)); closed = c; middle = zeros (k .middleLen); out = padded (k .outLen) (x .0); left = padded (k .leftLen) (encode (x .1)) }
 
-unfoldable pub passOf : List ℕ → List ℕ → List ℕ → List ℕ → ℕ → ℕ → ℕ → Passed
-passOf bundle folder text sheet m n l = passedAnswer m n l (closedOf bundle folder text sheet) (passResult bundle folder text sheet m n l)
+  unfoldable pub passResult : List ℕ → List ℕ → Answer (List ℕ × Records)
+  passResult sheet text = do
+    es ← orRefuse 2 (bundleOf (k .bundle))
+    s ← orRefuse 3 (sheetOf sheet)
+    check 4 (isFolder (k .folder))
+    check 6 (all ascii text)
+    check 9 (leb (sheetLength s) (limit (k .leftLen)))
+    passed (view es) (limit (k .leftLen)) (k .middleLen) (k .outLen) (k .folder) s text
+
+  unfoldable pub passOf : List ℕ → List ℕ → Passed
+  passOf sheet text = passedAnswer (closedOf sheet text) (passResult sheet text)

@@ -8,7 +8,7 @@ use Rattle.rules.specs.Answer.{Answer, refused, accepted, _>>=_, _>>_, c
 use Rattle.rules.specs.Reader.{bytes}
 use Rattle.rules.specs.Bundle.{bundleOf}
 use Rattle.rules.specs.Files.{view, fetch}
-use Rattle.rules.specs.Calls.{padded, Defined, Passed, parseDefinitionsOf, passOf}
+use Rattle.rules.specs.Calls.{padded, Defined, Setting, Passed, parseDefinitionsOf, passOf}
 
 -- The numbers of section 8 in decimal: below 100.
 unfoldable pub decimal : ℕ → List ℕ
@@ -25,14 +25,18 @@ sheetFrom d = answered (d .number) (take (d .sheetLen) (d .left))
 unfoldable pub outputFrom : Passed → Answer (List ℕ)
 outputFrom p = answered (p .number) (take (p .len) (p .out))
 
--- The definitions of `defs.typ`, then a pass over `main.typ`, folder empty; L 1,024, middle and output 32,768.
+-- The setting of its pass: folder empty; middle and output 32,768, L 1,024.
+abbrev pub setting : List ℕ → Setting
+setting b = record { bundle = b; folder = []; middleLen = 32768; outLen = 32768; leftLen = 1024 }
+
+-- The definitions of `defs.typ`, L 1,024; then a pass over `main.typ`.
 unfoldable pub built : List ℕ → Answer (List ℕ)
 built b = do
   check 2 (leb (length b) 16384)
   s ← sheetFrom (parseDefinitionsOf b (bytes "defs.typ") 1024 (16 * 1024))
   es ← orRefuse 2 (bundleOf b)
   t ← fetch (view es) (bytes "main.typ")
-  outputFrom (passOf b [] t s 32768 32768 1024)
+  outputFrom (passOf (setting b) s t)
 
 -- The output, or `refused N` and newline.
 unfoldable pub shown : Answer (List ℕ) → List ℕ

@@ -18,7 +18,7 @@ use Rattle.rules.specs.Sheet.{Records}
 use Rattle.rules.specs.Includes.{includeStep, insideFile, includes}
 use Rattle.rules.specs.Expansion.{expansion}
 use Rattle.rules.specs.Pass.{expanded, passed, closed}
-use Rattle.rules.specs.Calls.{limit, zeros, padded, passedAnswer, closedIn, closedOf, passResult, passOf}
+use Rattle.rules.specs.Calls.{Setting, limit, zeros, padded, passedAnswer, closedIn, closedOf, passResult, passOf}
 use Rattle.rules.specs.Laws.Bool.{true-some}
 use Rattle.rules.specs.Laws.Middle.{middle-plain}
 use Rattle.bundle.specs.Find.{entriesOf, entries-some}
@@ -33,6 +33,10 @@ use Rattle.arguments.specs.Given.{given, given-then, GoodArguments, good-given,
 use Rattle.runs.specs.Includes.{Middle, middle-stops, middle-goes}
 use Rattle.runs.specs.Expansion.{sheet-keeps, expanded-stops, expanded-goes, left-length}
 
+-- The setting of a pass with buffers of m, n and l bytes.
+abbrev pub settingOf : List ℕ → List ℕ → ℕ → ℕ → ℕ → Setting
+settingOf bundle folder m n l = record { bundle = bundle; folder = folder; middleLen = m; outLen = n; leftLen = l }
+
 -- The arguments keep the rules, for the limit of the sheet's buffer.
 pub record Begins (bundle folder text sheet left : List ℕ) (L : ℕ) : Type 0 where
   pub limits : L ≡ limit (length left)
@@ -45,11 +49,11 @@ pub record Passes (bundle folder text sheet middle middle₂ out out₂ left lef
   pub left-size : length left₂ ≡ length left
   pub fits : r .len ≤ length out
   pub sheet-fits : r .sheet ≤ length left
-  pub is : passOf bundle folder text sheet (length middle) (length out) (length left) ≡ record { number = r .number; len = r .len; sheetLen = r .sheet; closed = r .closed; middle = zeros (length middle); out = padded (length out) (take (r .len) out₂); left = padded (length left) (take (r .sheet) left₂) }
+  pub is : passOf (settingOf bundle folder (length middle) (length out) (length left)) sheet text ≡ record { number = r .number; len = r .len; sheetLen = r .sheet; closed = r .closed; middle = zeros (length middle); out = padded (length out) (take (r .len) out₂); left = padded (length left) (take (r .sheet) left₂) }
 
 -- REFUSED, whatever stands in the buffers.
 pub passes-refused : {b g t z m m₂ o o₂ l l₂ : List ℕ} {k : ℕ} {r : Outcome} → r ≡ refusedOutcome k → length m₂ ≡ length m → length o₂ ≡ length o → length l₂ ≡ length l →
-    passResult b g t z (length m) (length o) (length l) ≡ refused k → Passes b g t z m m₂ o o₂ l l₂ r
+    passResult (settingOf b g (length m) (length o) (length l)) z t ≡ refused k → Passes b g t z m m₂ o o₂ l l₂ r
 unfolding passOf passedAnswer padded
 passes-refused {b} {g} {t} {z} {m} {o = o} {l = l} e x y w h = rw e (record {
   middle-size = x;
@@ -57,7 +61,7 @@ passes-refused {b} {g} {t} {z} {m} {o = o} {l = l} e x y w h = rw e (record {
   left-size = w;
   fits = omega arith;
   sheet-fits = omega arith;
-  is = ap (passedAnswer (length m) (length o) (length l) (closedOf b g t z)) h ∙ simp sub-zero;
+  is = let k = settingOf b g (length m) (length o) (length l) in ap (passedAnswer k (closedOf k z t)) h ∙ simp sub-zero;
 })
 
 module _ (b g t z : List ℕ) (m n l : ℕ) where
@@ -65,20 +69,20 @@ module _ (b g t z : List ℕ) (m n l : ℕ) where
   abbrev Then : List Entry × Records → Answer (List ℕ × Records)
   Then x = passed (view (x .0)) (limit l) m n g (x .1) t
 
-  as-given : passResult b g t z m n l ≡ (given b g t z (limit l) >>= Then)
+  as-given : passResult (settingOf b g m n l) z t ≡ (given b g t z (limit l) >>= Then)
   unfolding passResult
   as-given = given-then b g t z (limit l) Then
 
-  pub pass-judged : {k : ℕ} → Judges b g t z (limit l) k → (k ≡ 0 → ⊥) → passResult b g t z m n l ≡ refused k
+  pub pass-judged : {k : ℕ} → Judges b g t z (limit l) k → (k ≡ 0 → ⊥) → passResult (settingOf b g m n l) z t ≡ refused k
   unfolding _>>=_
   pass-judged j h = as-given ∙ ap (λ x. x >>= Then) (j .no h)
 
-  in-reading : (f : GoodArguments b g t z (limit l)) → passResult b g t z m n l ≡ passed (view (entriesOf b)) (limit l) m n g (f .sheets .r) t
+  in-reading : (f : GoodArguments b g t z (limit l)) → passResult (settingOf b g m n l) z t ≡ passed (view (entriesOf b)) (limit l) m n g (f .sheets .r) t
   unfolding _>>=_
   in-reading f = as-given ∙ ap (λ x. x >>= Then) (good-given f)
 
   -- Closed, for such arguments.
-  closed-good : (f : GoodArguments b g t z (limit l)) → closedOf b g t z ≡ closed (view (entriesOf b)) g (f .sheets .r) t
+  closed-good : (f : GoodArguments b g t z (limit l)) → closedOf (settingOf b g m n l) z t ≡ closed (view (entriesOf b)) g (f .sheets .r) t
   unfolding closedOf closedIn
   closed-good f =
       let x = true-some (bundleOf b) (f .bundles) in
@@ -112,7 +116,7 @@ module _ {b g t z l₀ : List ℕ} {L : ℕ} (B : Begins b g t z l₀ L) {m c : 
         F : Expands (limit (length l₀)) 11 (view (entriesOf b)) (take q c) o 0 o₂ (sets l₀ 0 z) (length z) l₂ r
         F = rw (S, B .limits) at E
 
-        then-expanded : passResult b g t z (length m) (length o) (length l₀) ≡ expanded (view (entriesOf b)) (limit (length l₀)) (length o) (B .good .sheets .r) (take q c)
+        then-expanded : passResult (settingOf b g (length m) (length o) (length l₀)) z t ≡ expanded (view (entriesOf b)) (limit (length l₀)) (length o) (B .good .sheets .r) (take q c)
         unfolding passed _>>=_
         then-expanded = in-reading b g t z (length m) (length o) (length l₀) (B .good) ∙ ap (Expansion (length o)) (M .says)
 
@@ -128,7 +132,8 @@ module _ {b g t z l₀ : List ℕ} {L : ℕ} (B : Begins b g t z l₀ L) {m c : 
             let v = view (entriesOf b) in
             let s = B .good .sheets .r in
             let W = expanded-goes l₀ (B .good .sheets) (B .good .fits) F x in
-            let a : closedOf b g t z ≡ (n && w && r .whole) =
+            let k = settingOf b g (length m) (length o) (length l₀) in
+            let a : closedOf k z t ≡ (n && w && r .whole) =
             closed-good b g t z (length m) (length o) (length l₀) (B .good) ∙ (λ i. sym h i && M .wholes i && allWhole (expansion v s (sym (M .is) i))) ∙ ap (λ j. n && w && j) (W .wholes) in
             record {
               middle-size = R .emits .size;
@@ -136,7 +141,7 @@ module _ {b g t z l₀ : List ℕ} {L : ℕ} (B : Begins b g t z l₀ L) {m c : 
               left-size = left-same;
               fits = W .fits;
               sheet-fits = W .sheet-fits;
-              is = ap (passedAnswer (length m) (length o) (length l₀) (closedOf b g t z)) (then-expanded ∙ W .says)
+              is = ap (passedAnswer k (closedOf k z t)) (then-expanded ∙ W .says)
                   ∙ λ i. record { number = 0; len = sym (W .long) i; sheetLen = sym (W .sheet-long) i; closed = a i; middle = zeros (length m); out = padded (length o) (take (r .next) o₂); left = padded (length l₀) (sym (W .sheet) i) };
             }
 

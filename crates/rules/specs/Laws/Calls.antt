@@ -19,8 +19,8 @@ use Rattle.rules.specs.Sheet.{Records, encode, sheetLength, sheetOf, res
 use Rattle.rules.specs.Includes.{includes}
 use Rattle.rules.specs.Expansion.{expansion}
 use Rattle.rules.specs.Pass.{middleText, expanded, passed, closed}
-use Rattle.rules.specs.Calls.{limit, zeros, padded, Holds, Found, foundAnswer, findFileResult, findFileOf, outputAnswer, resolveStringResult, resolveStringOf, resolveIncludesResult, resolveIncludesOf, expandedAnswer, preprocessTypstResult, preprocessTypstOf, definedAnswer, parseDefinitionsResult, parseDefinitionsOf, resolveResult, passedAnswer, closedOf, passResult, passOf}
-use Rattle.rules.specs.Parts.{sheetLeft, Setting, pass, isClosed}
+use Rattle.rules.specs.Calls.{Setting, limit, zeros, padded, Holds, Found, foundAnswer, findFileResult, findFileOf, outputAnswer, resolveStringResult, resolveStringOf, resolveIncludesResult, resolveIncludesOf, expandedAnswer, preprocessTypstResult, preprocessTypstOf, definedAnswer, parseDefinitionsResult, parseDefinitionsOf, resolveResult, passedAnswer, closedOf, passResult, passOf}
+use Rattle.rules.specs.Parts.{sheetLeft}
 use Rattle.rules.specs.Laws.Bool.{or-i-r, true-leb}
 use Rattle.rules.specs.Laws.Answer.{accepted-same, check-inv, bind-inv, orRefuse-inv}
 use Rattle.rules.specs.Laws.Limit.{limited-fits}
@@ -238,10 +238,7 @@ preprocessTypst-sheet bundle text sheet n l h =
 
 -- THE PASS.
 module _ (k : Setting) where
-  abbrev result : List ℕ → List ℕ → Answer (List ℕ × Records)
-  result s t = passResult (k .bundle) (k .folder) t s (k .middleLen) (k .outLen) (k .leftLen)
-
-  pass-ready : (sheet t : List ℕ) (y : List ℕ × Records) → result sheet t ≡ accepted y → Ready (k .outLen) (k .leftLen) y
+  pass-ready : (sheet t : List ℕ) (y : List ℕ × Records) → passResult k sheet t ≡ accepted y → Ready (k .outLen) (k .leftLen) y
   unfolding passed
   pass-ready sheet t y q =
       let r = ran-inv k sheet t y q in
@@ -249,43 +246,43 @@ module _ (k : Setting) where
       record { output = expanded-fits (view (r .entries)) (limit (k .leftLen)) (k .outLen) (r .records) (i .0 .0) y (i .2); sheet = ran-kept k sheet t y r }
 
   passed-holds : (c : Bool) (x : Answer (List ℕ × Records)) → ((y : List ℕ × Records) → x ≡ accepted y → Ready (k .outLen) (k .leftLen) y) →
-      let r = passedAnswer (k .middleLen) (k .outLen) (k .leftLen) c x in HoldsBoth (k .outLen) (k .leftLen) (r .len) (r .sheetLen) (r .out) (r .left)
+      let r = passedAnswer k c x in HoldsBoth (k .outLen) (k .leftLen) (r .len) (r .sheetLen) (r .out) (r .left)
   unfolding passedAnswer
   passed-holds c (refused n) h = record { output = holds-zeros (k .outLen); sheet = holds-zeros (k .leftLen) }
   passed-holds c (accepted y) h = let r = h y refl in record { output = holds-padded (k .outLen) (y .0) (r .output); sheet = holds-padded (k .leftLen) (encode (y .1)) (kept-fits (k .leftLen) (y .1) (r .sheet)) }
 
-  pub pass-holds : (sheet t : List ℕ) → HoldsBoth (k .outLen) (k .leftLen) (pass k sheet t .len) (pass k sheet t .sheetLen) (pass k sheet t .out) (pass k sheet t .left)
-  unfolding pass passOf
-  pass-holds sheet t = passed-holds (closedOf (k .bundle) (k .folder) t sheet) (result sheet t) (pass-ready sheet t)
+  pub pass-holds : (sheet t : List ℕ) → HoldsBoth (k .outLen) (k .leftLen) (passOf k sheet t .len) (passOf k sheet t .sheetLen) (passOf k sheet t .out) (passOf k sheet t .left)
+  unfolding passOf
+  pass-holds sheet t = passed-holds (closedOf k sheet t) (passResult k sheet t) (pass-ready sheet t)
 
   -- The middle buffer is zero, accepted and refused.
-  passed-middle : (c : Bool) (x : Answer (List ℕ × Records)) → passedAnswer (k .middleLen) (k .outLen) (k .leftLen) c x .middle ≡ zeros (k .middleLen)
+  passed-middle : (c : Bool) (x : Answer (List ℕ × Records)) → passedAnswer k c x .middle ≡ zeros (k .middleLen)
   unfolding passedAnswer
   passed-middle c (refused n) = refl
   passed-middle c (accepted y) = refl
 
-  pub pass-middle : (sheet t : List ℕ) → pass k sheet t .middle ≡ zeros (k .middleLen)
-  unfolding pass passOf
-  pass-middle sheet t = passed-middle (closedOf (k .bundle) (k .folder) t sheet) (result sheet t)
+  pub pass-middle : (sheet t : List ℕ) → passOf k sheet t .middle ≡ zeros (k .middleLen)
+  unfolding passOf
+  pass-middle sheet t = passed-middle (closedOf k sheet t) (passResult k sheet t)
 
   -- A number 0 is an acceptance.
-  pub pass-accepted : (sheet t : List ℕ) → pass k sheet t .number ≡ 0 → (y : List ℕ × Records) × (result sheet t ≡ accepted y)
-  unfolding pass passOf passedAnswer isClosed
+  pub pass-accepted : (sheet t : List ℕ) → passOf k sheet t .number ≡ 0 → (y : List ℕ × Records) × (passResult k sheet t ≡ accepted y)
+  unfolding passOf passedAnswer
   pass-accepted sheet t h =
-      accepted-form (passedAnswer (k .middleLen) (k .outLen) (k .leftLen) (isClosed k sheet t)) (λ r. r .number) (λ n. refl) (λ y. refl) (result sheet t) (result-numbered k sheet t) h
+      accepted-form (passedAnswer k (closedOf k sheet t)) (λ r. r .number) (λ n. refl) (λ y. refl) (passResult k sheet t) (result-numbered k sheet t) h
 
   -- Closed: accepted, and the text is closed.
-  closed-at : (c : Bool) (x : Answer (List ℕ × Records)) → numbered x ≡ true → let r = passedAnswer (k .middleLen) (k .outLen) (k .leftLen) c x in (r .closed ≡ true) ↔ ((r .number ≡ 0) × (c ≡ true))
+  closed-at : (c : Bool) (x : Answer (List ℕ × Records)) → numbered x ≡ true → let r = passedAnswer k c x in (r .closed ≡ true) ↔ ((r .number ≡ 0) × (c ≡ true))
   unfolding passedAnswer
   closed-at c (refused n) m = (λ h. absurd (true≢false (sym h)), λ h. absurd (zero-accepted (refused n) m (ap refused (h .0))))
   closed-at c (accepted y) m = (λ h. (refl, h), λ h. h .1)
 
-  pub pass-closed : (sheet t : List ℕ) → (pass k sheet t .closed ≡ true) ↔ ((pass k sheet t .number ≡ 0) × (isClosed k sheet t ≡ true))
-  unfolding pass passOf isClosed
-  pass-closed sheet t = closed-at (closedOf (k .bundle) (k .folder) t sheet) (result sheet t) (result-numbered k sheet t)
+  pub pass-closed : (sheet t : List ℕ) → (passOf k sheet t .closed ≡ true) ↔ ((passOf k sheet t .number ≡ 0) × (closedOf k sheet t ≡ true))
+  unfolding passOf
+  pass-closed sheet t = closed-at (closedOf k sheet t) (passResult k sheet t) (result-numbered k sheet t)
 
   -- The sheet that an accepted pass leaves is a sheet of at most L bytes.
-  pub pass-sheet : (sheet t : List ℕ) → pass k sheet t .number ≡ 0 → Sheet (limit (k .leftLen)) (sheetLeft (pass k sheet t))
+  pub pass-sheet : (sheet t : List ℕ) → passOf k sheet t .number ≡ 0 → Sheet (limit (k .leftLen)) (sheetLeft (passOf k sheet t))
   unfolding sheetLength
   pass-sheet sheet t h =
       let y = pass-accepted sheet t h in

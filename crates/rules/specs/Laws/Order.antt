@@ -15,11 +15,10 @@ use Rattle.rules.specs.Bundle.{bundleOf}
 use Rattle.rules.specs.Files.{fetch}
 use Rattle.rules.specs.Sheet.{sheetOf}
 use Rattle.rules.specs.Imports.{definitions, fileSheet}
-use Rattle.rules.specs.Calls.{limit, resolveResult, resolveStringResult, findFileResult, findFileOf, resolveIncludesResult, preprocessTypstResult, parseDefinitionsResult, passResult}
+use Rattle.rules.specs.Calls.{Setting, limit, resolveResult, resolveStringResult, findFileResult, findFileOf, resolveIncludesResult, preprocessTypstResult, parseDefinitionsResult, passResult}
 use Rattle.rules.specs.Laws.Bool.{true-some, false-some, true-eqb, false-eqb}
 use Rattle.rules.specs.Laws.Answer.{not-both}
 use Rattle.rules.specs.Laws.Sheet.{sheet-size}
-use Rattle.rules.specs.Parts.{Setting}
 use Rattle.rules.specs.Laws.Found.{found-number, found-there, found-absent}
 
 -- The answer is the first broken rule's, where one is broken.
@@ -90,7 +89,7 @@ parseDefinitions-order bundle path l w =
     rule (λ a. rw (o, p, found-there bundle path es p z (true-eqb _ 2 k), a)) (λ a. kept)))))
 
 pub pass-order : (k : Setting) (sheet text : List ℕ) →
-    Refuses (passResult (k .bundle) (k .folder) text sheet (k .middleLen) (k .outLen) (k .leftLen))
+    Refuses (passResult k sheet text)
     ((2, isSome (bundleOf (k .bundle))) ∷ (3, isSome (sheetOf sheet)) ∷ (4, isFolder (k .folder)) ∷ (6, all ascii text) ∷ (9, leb (length sheet) (limit (k .leftLen))) ∷ [])
 unfolding passResult orRefuse check _>>=_ _>>_
 pass-order k sheet text =

@@ -8,7 +8,7 @@ use native.Mathlib.Omega.{arith}
 use lib.Dec.{leb}
 use lib.ListN.{length}
 use lib.Seq.{take-append-seam}
-use Rattle.rules.specs.Answer.{Answer, accepted, isRefusal, _>>=_, _>>_, check, orRefuse}
+use Rattle.rules.specs.Answer.{accepted, isRefusal, _>>=_, _>>_, check, orRefuse}
 use Rattle.rules.specs.Reader.{all}
 use Rattle.rules.specs.Bytes.{ascii, word, isFolder}
 use Rattle.rules.specs.Bundle.{Entry, bundleOf}
@@ -17,8 +17,8 @@ use Rattle.rules.specs.Sheet.{Value, Records, encode, sheetLength, sheet
 use Rattle.rules.specs.Includes.{includes}
 use Rattle.rules.specs.Expansion.{letValue}
 use Rattle.rules.specs.Pass.{middleText, expanded, passed, closed}
-use Rattle.rules.specs.Calls.{limit, zeros, padded, Passed, passedAnswer, closedIn, closedOf, passResult, passOf}
-use Rattle.rules.specs.Parts.{outputOf, sheetLeft, Setting, pass, isClosed, passes, closedParts, joined, allAccepted, outputs, lastSheet}
+use Rattle.rules.specs.Calls.{Setting, limit, zeros, padded, Passed, passedAnswer, closedIn, closedOf, passResult, passOf}
+use Rattle.rules.specs.Parts.{outputOf, sheetLeft, passes, closedParts, joined, allAccepted, outputs, lastSheet}
 use Rattle.rules.specs.Laws.Bool.{and-l, and-r, true-leb, true-some}
 use Rattle.rules.specs.Laws.Answer.{bind-inv}
 use Rattle.rules.specs.Laws.Limit.{limited-text}
@@ -64,9 +64,6 @@ kept-sheet l s k = sheet-encode s (k .good) (omega (arith, true-leb (sheetLength
 
 -- THE ARGUMENTS of an accepted pass.
 module _ (k : Setting) where
-  abbrev result : List ℕ → List ℕ → Answer (List ℕ × Records)
-  result s t = passResult (k .bundle) (k .folder) t s (k .middleLen) (k .outLen) (k .leftLen)
-
   pub record Ran (sheet t : List ℕ) (y : List ℕ × Records) : Type 0 where
     pub entries : List Entry
     pub records : Records
@@ -79,11 +76,11 @@ module _ (k : Setting) where
 
   -- With good arguments the result is that of the pass.
   good-result : (sheet t : List ℕ) (es : List Entry) (s : Records) → bundleOf (k .bundle) ≡ some es → sheetOf sheet ≡ some s → isFolder (k .folder) ≡ true → all ascii t ≡ true → leb (sheetLength s) (limit (k .leftLen)) ≡ true →
-      result sheet t ≡ passed (view es) (limit (k .leftLen)) (k .middleLen) (k .outLen) (k .folder) s t
+      passResult k sheet t ≡ passed (view es) (limit (k .leftLen)) (k .middleLen) (k .outLen) (k .folder) s t
   unfolding passResult orRefuse check _>>=_ _>>_
   good-result sheet t es s b p f a l = rw (b, p, f, a, l)
 
-  pub ran-inv : (sheet t : List ℕ) (y : List ℕ × Records) → result sheet t ≡ accepted y → Ran sheet t y
+  pub ran-inv : (sheet t : List ℕ) (y : List ℕ × Records) → passResult k sheet t ≡ accepted y → Ran sheet t y
   ran-inv sheet t y q =
       let i₁ = first-kept _ _ _ (none-broken (pass-order k sheet t) q) in
       let i₂ = first-kept _ _ _ (i₁ .1) in
@@ -104,7 +101,7 @@ module _ (k : Setting) where
         ran = sym (good-result sheet t (b .0) (s .0) (b .1) (s .1) (i₃ .0) (i₄ .0) l) ∙ q;
       }
 
-  pub ran-intro : (sheet t : List ℕ) (y : List ℕ × Records) → Ran sheet t y → result sheet t ≡ accepted y
+  pub ran-intro : (sheet t : List ℕ) (y : List ℕ × Records) → Ran sheet t y → passResult k sheet t ≡ accepted y
   ran-intro sheet t y r = good-result sheet t (r .entries) (r .records) (r .bundle-is) (r .sheet-is) (r .folder-good) (r .text-good) (r .small) ∙ r .ran
 
   pub ran-kept : (sheet t : List ℕ) (y : List ℕ × Records) → Ran sheet t y → Kept (limit (k .leftLen)) (y .1)
@@ -113,8 +110,8 @@ module _ (k : Setting) where
       (record { good = sheet-good sheet (r .records) (r .sheet-is) .good; small = r .small }) (r .ran)
 
   -- A closed text is closed for the records.
-  closed-inv : (sheet t : List ℕ) (es : List Entry) (s : Records) → bundleOf (k .bundle) ≡ some es → sheetOf sheet ≡ some s → isClosed k sheet t ≡ true → closed (view es) (k .folder) s t ≡ true
-  unfolding isClosed closedOf closedIn
+  closed-inv : (sheet t : List ℕ) (es : List Entry) (s : Records) → bundleOf (k .bundle) ≡ some es → sheetOf sheet ≡ some s → closedOf k sheet t ≡ true → closed (view es) (k .folder) s t ≡ true
+  unfolding closedOf closedIn
   closed-inv sheet t es s p q h =
       let h₁ : (isFolder (k .folder) && all ascii t && closed (view es) (k .folder) s t) ≡ true = rw (p, q) at h in
       and-r (isFolder (k .folder) && all ascii t) _ h₁
@@ -124,11 +121,11 @@ module _ (k : Setting) where
     first : List ℕ
     records : Records
     second : List ℕ × Records
-    result-first : result sheet a ≡ accepted (first, records)
-    result-second : result (encode records) c ≡ accepted second
+    result-first : passResult k sheet a ≡ accepted (first, records)
+    result-second : passResult k (encode records) c ≡ accepted second
     both : y ≡ (first ++ second .0, second .1)
 
-  two-passes : (sheet a c : List ℕ) (y : List ℕ × Records) → isClosed k sheet a ≡ true → result sheet (a ++ c) ≡ accepted y → Two sheet a c y
+  two-passes : (sheet a c : List ℕ) (y : List ℕ × Records) → closedOf k sheet a ≡ true → passResult k sheet (a ++ c) ≡ accepted y → Two sheet a c y
   two-passes sheet a c y h q =
       let r = ran-inv sheet (a ++ c) y q in
       let x = passed-split (view (r .entries)) (limit (k .leftLen)) (k .middleLen) (k .outLen) (k .folder) (r .records) a c y
@@ -146,12 +143,12 @@ module _ (k : Setting) where
 
   -- THE ANSWER of a pass whose result is accepted.
   pub record Answers (sheet t : List ℕ) (y : List ℕ × Records) : Type 0 where
-    pub number : pass k sheet t .number ≡ 0
-    pub output : outputOf (pass k sheet t) ≡ y .0
-    pub leaves : sheetLeft (pass k sheet t) ≡ encode (y .1)
+    pub number : passOf k sheet t .number ≡ 0
+    pub output : outputOf (passOf k sheet t) ≡ y .0
+    pub leaves : sheetLeft (passOf k sheet t) ≡ encode (y .1)
 
-  pub answers : (sheet t : List ℕ) (y : List ℕ × Records) → result sheet t ≡ accepted y → Answers sheet t y
-  unfolding pass passOf passedAnswer outputOf sheetLeft padded
+  pub answers : (sheet t : List ℕ) (y : List ℕ × Records) → passResult k sheet t ≡ accepted y → Answers sheet t y
+  unfolding passOf passedAnswer outputOf sheetLeft padded
   answers sheet t y q = record {
     number = rw q refl;
     output = rw q (take-append-seam (y .0) (zeros (k .outLen - length (y .0))));
@@ -164,7 +161,7 @@ module _ (k : Setting) where
     pub output : outputs rs ≡ o
     pub sheet : lastSheet rs ≡ s
 
-  same-one : (sheet p : List ℕ) (y : List ℕ × Records) → result sheet p ≡ accepted y → Same (passes k sheet p []) (y .0) (encode (y .1))
+  same-one : (sheet p : List ℕ) (y : List ℕ × Records) → passResult k sheet p ≡ accepted y → Same (passes k sheet p []) (y .0) (encode (y .1))
   unfolding passes allAccepted outputs lastSheet all
   same-one sheet p y q =
       let a = answers sheet p y q in
@@ -175,7 +172,7 @@ module _ (k : Setting) where
   last-more r sheet q [] = refl
   last-more r sheet q (u ∷ us) = refl
 
-  same-more : (sheet p q : List ℕ) (qs : List (List ℕ)) (o : List ℕ) (s : Records) (y : List ℕ × Records) → result sheet p ≡ accepted (o, s) → Same (passes k (encode s) q qs) (y .0) (encode (y .1)) →
+  same-more : (sheet p q : List ℕ) (qs : List (List ℕ)) (o : List ℕ) (s : Records) (y : List ℕ × Records) → passResult k sheet p ≡ accepted (o, s) → Same (passes k (encode s) q qs) (y .0) (encode (y .1)) →
       Same (passes k sheet p (q ∷ qs)) (o ++ y .0) (encode (y .1))
   unfolding passes allAccepted outputs all
   same-more sheet p q qs o s y h r =
@@ -183,20 +180,20 @@ module _ (k : Setting) where
       rw (a .leaves) (record {
         accepts = rw (a .number) (r .accepts);
         output = rw (a .output, r .output);
-        sheet = last-more (pass k sheet p) (encode s) q qs ∙ r .sheet;
+        sheet = last-more (passOf k sheet p) (encode s) q qs ∙ r .sheet;
       })
 
-  pub one-is-many : (qs : List (List ℕ)) (sheet p : List ℕ) (y : List ℕ × Records) → result sheet (joined p qs) ≡ accepted y → closedParts k sheet p qs ≡ true → Same (passes k sheet p qs) (y .0) (encode (y .1))
+  pub one-is-many : (qs : List (List ℕ)) (sheet p : List ℕ) (y : List ℕ × Records) → passResult k sheet (joined p qs) ≡ accepted y → closedParts k sheet p qs ≡ true → Same (passes k sheet p qs) (y .0) (encode (y .1))
   unfolding joined closedParts
   one-is-many [] sheet p y q c = same-one sheet p y q
   one-is-many (r ∷ qs) sheet p y q c =
-      let x = two-passes sheet p (joined r qs) y (and-l (isClosed k sheet p) _ c) q in
+      let x = two-passes sheet p (joined r qs) y (and-l (closedOf k sheet p) _ c) q in
       let s = answers sheet p (x .first, x .records) (x .result-first) .leaves in
-      let c′ : closedParts k (encode (x .records)) r qs ≡ true = rw s at (and-r (isClosed k sheet p) _ c) in
+      let c′ : closedParts k (encode (x .records)) r qs ≡ true = rw s at (and-r (closedOf k sheet p) _ c) in
       rw (x .both) (same-more sheet p r qs (x .first) (x .records) (x .second) (x .result-first) (one-is-many qs (encode (x .records)) r (x .second) (x .result-second) c′))
 
   -- THE NUMBER says whether the result is accepted.
-  pub result-numbered : (sheet t : List ℕ) → numbered (result sheet t) ≡ true
+  pub result-numbered : (sheet t : List ℕ) → numbered (passResult k sheet t) ≡ true
   unfolding passResult passed middleText expanded isRefusal
   result-numbered sheet t =
       search (numbered-bind, numbered-then, numbered-check, numbered-orRefuse, limited-numbered, includes-numbered, expansion-numbered) depth 20
