@@ -12,8 +12,7 @@ use Rattle.rules.specs.Reader.{bytes}
 use Rattle.rules.specs.Bundle.{bundleOf}
 use Rattle.rules.specs.Files.{view, fetch}
 use Rattle.rules.specs.Calls.{Holds, Passed, parseDefinitionsOf, passOf}
-use Rattle.rules.specs.Parts.{pass}
-use Rattle.rules.specs.Manual.{decimal, answered, sheetFrom, outputFrom, built, shown, manual, manualOf}
+use Rattle.rules.specs.Manual.{decimal, answered, sheetFrom, outputFrom, setting, built, shown, manual, manualOf}
 use Rattle.rules.specs.Laws.Answer.{not-both, accepted-same, check-inv, bind-inv}
 use Rattle.rules.specs.Laws.Calls.{holds-padded, pass-holds}
 
@@ -38,13 +37,13 @@ unfolding outputFrom
 output-fits p h q = omega (arith, ap length (answered-inv (p .number) (take (p .len) (p .out)) q), length-take-le (p .len) (p .out) (omega arith))
 
 built-fits : (b o : List ℕ) → built b ≡ accepted o → length o ≤ 32768
-unfolding built pass
+unfolding built
 built-fits b o q =
     let c = check-inv _ (leb (length b) _) _ q in
     let s = bind-inv (sheetFrom (parseDefinitionsOf b (bytes "defs.typ") _ _)) _ (c .1) in
     let e = bind-inv (orRefuse _ (bundleOf b)) _ (s .2) in
     let t = bind-inv (fetch (view (e .0)) (bytes "main.typ")) _ (e .2) in
-    output-fits (passOf b [] (t .0) (s .0) _ _ _) (pass-holds (record { bundle = b; folder = []; middleLen = _; outLen = _; leftLen = _ }) (s .0) (t .0) .output) (t .2)
+    output-fits (passOf (setting b) (s .0) (t .0)) (pass-holds (setting b) (s .0) (t .0) .output) (t .2)
 
 shown-fits : (n : ℕ) (a : Answer (List ℕ)) → 11 ≤ n → ((o : List ℕ) → a ≡ accepted o → length o ≤ n) → length (shown a) ≤ n
 unfolding shown
