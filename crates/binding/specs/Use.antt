@@ -8,9 +8,12 @@ use native.Mathlib.Omega.{arith}
 use lib.Dec.{ltb}
 use lib.ListN.{length, take, getD}
 use lib.Seq.{length-take-le}
+use borrow.Author.Tests.{le-leb}
 use Rattle.rules.specs.Reader.{all}
 use Rattle.rules.specs.Bytes.{word}
 use Rattle.rules.specs.Sheet.{Value, text, nothing, dictionary, Records, encode, sheetLength, goodRecords, goodValue, sheetOf, set}
+use Rattle.rules.specs.Run.{Did}
+use Rattle.buffers.specs.Emits.{guard, guard-yes}
 use Rattle.rules.specs.Laws.Bool.{and-i, ltb-true, isSome, true-some}
 use Rattle.rules.specs.Laws.Sheet.{sheet-good, sheet-canonical, set-good}
 use Rattle.sheet.specs.Find.{IsSheet, Gives}
@@ -62,6 +65,13 @@ pub record Keeps (l : List ℕ) (n limit : ℕ) : Type 0 where
   pub most : limit ≤ 65535
   pub sheet : IsSheet (take n l)
 
-pub keeps-holds : {l : List ℕ} {n limit : ℕ} (k : Keeps l n limit) → Holds (k .sheet .r) l n limit
+pub kept-holds : {l : List ℕ} {n limit : ℕ} → Keeps l n limit → (s : IsSheet (take n l)) → Holds (s .r) l n limit
 unfolding sheetLength
-keeps-holds {l} {n} k = record { bytes = k .sheet .bytes; long = sym (ap length (sym (k .sheet .bytes)) ∙ length-take-le n l (omega (arith, k .fits, k .room))); fits = k .fits; good = k .sheet .good }
+kept-holds {l} {n} k s = record { bytes = s .bytes; long = sym (ap length (sym (s .bytes)) ∙ length-take-le n l (omega (arith, k .fits, k .room))); fits = k .fits; good = s .good }
+
+pub keeps-holds : {l : List ℕ} {n limit : ℕ} (k : Keeps l n limit) → Holds (k .sheet .r) l n limit
+keeps-holds k = kept-holds k (k .sheet)
+
+-- A step that keeps such a sheet passes the limit.
+pub within-limit : {s : Records} {l : List ℕ} {n limit : ℕ} (d : Did Records) → d .state ≡ s → Holds s l n limit → guard sheetLength limit d ≡ d .emit
+within-limit {limit = limit} d e h = guard-yes sheetLength limit d (le-leb _ limit (omega (arith, ap sheetLength e, h .long, h .fits)))

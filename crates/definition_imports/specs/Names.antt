@@ -24,7 +24,7 @@ use Rattle.sheet.specs.Order.{underscoredIf}
 use Rattle.sheet.specs.Find.{IsSheet, Level, Gives, Body, item-body, item-holding, item-rest}
 use Rattle.binding.specs.Write.{Bindable, BindsTo, IsThere}
 use Rattle.sheet.specs.Use.{found-there}
-use Rattle.binding.specs.Use.{Holds, holds-sheet, to-bind, bound-bytes, over-long}
+use Rattle.binding.specs.Use.{Keeps, kept-holds, keeps-holds, Holds, holds-sheet, to-bind, bound-bytes, over-long}
 use Rattle.sheet.specs.declared.head.Item.{Item}
 use Rattle.sheet.specs.declared.lookup.Found.{Found}
 use Rattle.sheet.specs.declared.lookup.Found.the-variants.{Missing}
@@ -33,10 +33,7 @@ use Rattle.binding.specs.declared.Bound.the-variants.{Over, Length}
 
 -- The first n bytes of b are a sheet, which may grow up to the limit; z is another.
 pub record Ready (z b : List ℕ) (n limit : ℕ) : Type 0 where
-  pub fits : n ≤ limit
-  pub room : limit ≤ length b
-  pub most : limit ≤ 65535
-  pub sheet : IsSheet (take n b)
+  pub keeps : Keeps b n limit
   pub from : IsSheet z
 
 -- What the answer a came to: refused with 9, or c holds its records.
@@ -52,11 +49,6 @@ pub record BindsNames (names : Names) (z b : List ℕ) (n limit : ℕ) (c : List
 -- LAWS. What the first bytes hold.
 pub holds-bindable : {s : Records} {c : List ℕ} {n limit : ℕ} → Holds s c n limit → limit ≤ length c → limit ≤ 65535 → Bindable c n limit
 holds-bindable {s} h r m = record { inside = omega (arith, h .fits); room = r; small = m; sheet = to-bind (holds-sheet h) }
-
-module _ {z b : List ℕ} {n limit : ℕ} (k : Ready z b n limit) where
-  pub ready-holds : (s : IsSheet (take n b)) → Holds (s .r) b n limit
-  unfolding sheetLength
-  ready-holds s = record { bytes = s .bytes; long = sym (ap length (sym (s .bytes)) ∙ length-take-le n b (omega (arith, k .fits, k .room))); fits = k .fits; good = s .good }
 
 -- An answer, by what it came to.
 bind-refused : (x : Answer Records) (f : Records → Answer Records) {k : ℕ} → x ≡ refused k → (x >>= f) ≡ refused k
@@ -114,7 +106,7 @@ pub sheet-part : {z : List ℕ} (r : IsSheet z) → Part z 0 (encode (r .r)) (le
 sheet-part {z} r = record { ends = omega (arith, ap length (r .bytes)); inside = omega arith; bytes = r .bytes ∙ sym (append-nil (encode (r .r))) ∙ ap (λ x. encode (r .r) ++ x) (sym (drop-of-length-le z {i = length z} (omega arith))) }
 
 pub all-start : {z b : List ℕ} {n limit : ℕ} → Ready z b n limit → BindingAll z b n limit b n 0
-all-start k = record { size = refl; walk = λ s r. record { so = s .r; left = r .r; is = refl; holds = ready-holds k s; part = sheet-part r; good = r .good } }
+all-start k = record { size = refl; walk = λ s r. record { so = s .r; left = r .r; is = refl; holds = kept-holds (k .keeps) s; part = sheet-part r; good = r .good } }
 
 module _ {limit : ℕ} {a : Answer Records} {z : List ℕ} {i : ℕ} {c : List ℕ} {n : ℕ} where
   pub meeting : Walking limit a z i c n → i < length z → Meeting limit a z i c n
@@ -158,11 +150,11 @@ all-end k h = record { size = k .size; binds = λ s r. walk-end (k .walk s r) h 
 
 -- The record o of z at i.
 module _ {z b : List ℕ} {n limit : ℕ} (p : Ready z b n limit) {c : List ℕ} {len i : ℕ} (k : BindingAll z b n limit c len i) (h : i < length z) where
-  pub all-next : Meeting limit (bindAll limit (p .sheet .r) (p .from .r)) z i c len
-  all-next = meeting (k .walk (p .sheet) (p .from)) h
+  pub all-next : Meeting limit (bindAll limit (p .keeps .sheet .r) (p .from .r)) z i c len
+  all-next = meeting (k .walk (p .keeps .sheet) (p .from)) h
 
   pub all-bindable : Bindable c len limit
-  all-bindable = holds-bindable (all-next .holds) (omega (arith, p .room, k .size)) (p .most)
+  all-bindable = holds-bindable (all-next .holds) (omega (arith, p .keeps .room, k .size)) (p .keeps .most)
 
   module _ {o : Item} (d : (n : List ℕ) (v : Value) (r : Records) (j : ℕ) → Part z i (encode (rec n v r)) j → Describes z i n v r j o) where
     pub all-told : Describes z i (all-next .m) (all-next .w) (all-next .q) (length z) o
@@ -195,7 +187,7 @@ sheet-level r = record { r = r .r; p = word; l = 6; part = sheet-part r; good = 
 
 pub none-bound : {z b : List ℕ} {n limit : ℕ} → Ready z b n limit → BindsNames (listed []) z b n limit b (Length n)
 unfolding bindNames bindListed
-none-bound p = record { size = refl; binds = λ s r. is-bound-length (s .r) refl (ready-holds p s) }
+none-bound p = record { size = refl; binds = λ s r. is-bound-length (s .r) refl (kept-holds (p .keeps) s) }
 
 one-word : (limit : ℕ) (s r : Records) (w : List ℕ) {c : List ℕ} {o : Bound} (x : Option Value) → get r w ≡ x → IsBound limit (bindIf limit s w x) c o → IsBound limit (bindNames limit s r (listed (w ∷ []))) c o
 unfolding bindNames bindListed
@@ -210,7 +202,7 @@ module _ {z b : List ℕ} {n limit : ℕ} (p : Ready z b n limit) (w : List ℕ)
   gives-word r = g (sheet-level r)
 
   pub word-bindable : Bindable b n limit
-  word-bindable = holds-bindable (ready-holds p (p .sheet)) (p .room) (p .most)
+  word-bindable = holds-bindable (keeps-holds (p .keeps)) (p .keeps .room) (p .keeps .most)
 
   pub word-there : (f ≡ Missing → ⊥) → IsThere z f
   word-there h = let y = found-there z _ f (gives-word (p .from)) h in record { v = y .0; gives = y .2 }
@@ -219,7 +211,7 @@ module _ {z b : List ℕ} {n limit : ℕ} (p : Ready z b n limit) (w : List ℕ)
   unfolding bindIf Gives
   word-missing e = record {
     size = refl;
-    binds = λ s r. let y : get (r .r) w ≡ none = rw e at (gives-word r) in one-word limit (s .r) (r .r) w none y (is-bound-length (s .r) refl (ready-holds p s));
+    binds = λ s r. let y : get (r .r) w ≡ none = rw e at (gives-word r) in one-word limit (s .r) (r .r) w none y (is-bound-length (s .r) refl (kept-holds (p .keeps) s));
   }
 
   module _ {c : List ℕ} {o : Bound} (x : (v : Value) → Gives z (some v) f → BindsTo b n limit (underscoredIf false w) v c o) where
@@ -229,7 +221,7 @@ module _ {z b : List ℕ} {n limit : ℕ} (p : Ready z b n limit) (w : List ℕ)
       size = x _ (word-there h .gives) .long;
       binds = λ s r.
           let y = found-there z _ f (gives-word r) h in
-          one-word limit (s .r) (r .r) w (some (y .0)) (y .1) (came-one o (ready-holds p s) (get-name (r .r) word 6 w (y .0) (r .good) (y .1)) (get-good (r .r) word 6 w (y .0) (r .good) (y .1)) (x _ (y .2)));
+          one-word limit (s .r) (r .r) w (some (y .0)) (y .1) (came-one o (kept-holds (p .keeps) s) (get-name (r .r) word 6 w (y .0) (r .good) (y .1)) (get-good (r .r) word 6 w (y .0) (r .good) (y .1)) (x _ (y .2)));
     }
 
 -- A later word, which is dropped where it is empty.
@@ -276,5 +268,5 @@ module _ {xs : List (List ℕ)} (ys : List (List ℕ)) {z b : List ℕ} {n limit
 -- What is left is a sheet, too.
 pub ready-on : {names : Names} {z b : List ℕ} {n limit : ℕ} {c : List ℕ} {o : Bound} {m : ℕ} → Ready z b n limit → BindsNames names z b n limit c o → o ≡ Length m → Ready z c m limit
 ready-on p w e =
-    let y = w .binds (p .sheet) (p .from) .bound _ e in
-    record { fits = y .2 .fits; room = omega (arith, p .room, w .size); most = p .most; sheet = holds-sheet (y .2); from = p .from }
+    let y = w .binds (p .keeps .sheet) (p .from) .bound _ e in
+    record { keeps = record { fits = y .2 .fits; room = omega (arith, p .keeps .room, w .size); most = p .keeps .most; sheet = holds-sheet (y .2) }; from = p .from }

@@ -27,12 +27,12 @@ use Rattle.buffers.specs.Laws.{take-sets, stored-first}
 use Rattle.buffers.specs.Emits.{guard, guarded, limited-guarded}
 use Rattle.sheet.specs.Find.{IsSheet}
 use Rattle.binding.specs.Mark.{Mark, mark-start}
-use Rattle.binding.specs.Use.{Holds, holds-sheet, Keeps, keeps-holds}
+use Rattle.binding.specs.Use.{within-limit, Holds, holds-sheet, Keeps, keeps-holds}
 use Rattle.binding.specs.declared.Bound.{Bound}
 use Rattle.binding.specs.declared.Bound.the-variants.{Over, Length}
 use Rattle.values.specs.Values.{slots, Room, room-two, room-behind, lent, lent-size, lent-first}
 use Rattle.definition_imports.specs.Names.{Ready, IsBound, BindsNames}
-use Rattle.definitions.specs.Steps.{Comes, DefinesLet, within}
+use Rattle.definitions.specs.Steps.{Comes, DefinesLet}
 use Rattle.definition_imports.specs.Import.{comesTo, ImportsAt}
 use Rattle.definitions.specs.declared.steps.Stepped.{Stepped}
 use Rattle.definitions.specs.declared.files.Parsed.{Parsed}
@@ -102,7 +102,7 @@ module _ {limit : ℕ} {d : Did Records × List ℕ} {t : List ℕ} {s : Records
   unfolding bound
   comes-refused {k} e = record {
     goes = λ z. absurd (true≢false (sym z));
-    stops = λ z. ap (λ q. guard sheetLength limit (q .0)) e ∙ within (bound s (refused k)) refl h;
+    stops = λ z. ap (λ q. guard sheetLength limit (q .0)) e ∙ within-limit (bound s (refused k)) refl h;
   }
 
   comes-bound : {a : Answer Records} {c : List ℕ} (o : Bound) → d ≡ (bound s a, drop at t) → IsBound limit a c o → Comes limit d t c (boundStep o at n)
@@ -250,7 +250,7 @@ module _ {l : List ℕ} {m : ℕ} {w : List ℕ} {n limit : ℕ} (k : Swap l m w
       ap (λ x. take x (drop limit moved)) e ∙ ap (take (length (take m l))) g ∙ take-append-seam (take m l) _
 
   pub swap-ready : Ready (part moved limit (limit + m)) back n limit
-  swap-ready = record { fits = k .fits; room = omega (arith, length-sets l 0 (take n moved), k .room); most = k .most; sheet = rw saved (k .kept); from = rw other (k .other) }
+  swap-ready = record { keeps = record { fits = k .fits; room = omega (arith, length-sets l 0 (take n moved), k .room); most = k .most; sheet = rw saved (k .kept) }; from = rw other (k .other) }
 
   pub swap-bound : {ns : Names} {c : List ℕ} {o : Bound} → BindsNames ns (part moved limit (limit + m)) back n limit c o → BindsImported limit ns l m w n c o
   swap-bound B = record {

@@ -22,7 +22,7 @@ use Rattle.sheet.specs.Order.{underscoredIf}
 use Rattle.binding.specs.Place.{Between}
 use Rattle.binding.specs.Mark.{Mark, Marked, mark-of}
 use Rattle.binding.specs.Write.{IsSource, BindsAt}
-use Rattle.binding.specs.Use.{Holds, holds-sheet, Keeps, keeps-holds, leaves-bytes, leaves-over}
+use Rattle.binding.specs.Use.{within-limit, Holds, holds-sheet, Keeps, keeps-holds, leaves-bytes, leaves-over}
 use Rattle.binding.specs.declared.Put.{Put}
 use Rattle.binding.specs.declared.Bound.the-variants.{Over, Length}
 use Rattle.values.specs.declared.ValueRead.{ValueRead}
@@ -58,9 +58,6 @@ good-let L i s t a g =
     let d = letStep L i s t .0 in
     and-r (numberedE (d .emit)) (goodRecords (d .state) word 6) (reads-definition L same (λ s p n h. h) s g .reads (bytes "#let" ++ t) a .answer)
 
-pub within : {s : Records} {l : List ℕ} {n limit : ℕ} (d : Did Records) → d .state ≡ s → Holds s l n limit → guard sheetLength limit d ≡ d .emit
-within {limit = limit} d e h = guard-yes sheetLength limit d (le-leb _ limit (omega (arith, ap sheetLength e, h .long, h .fits)))
-
 module _ (limit : ℕ) {t : List ℕ} {at a b e : ℕ} (X : Spans blank t at a) (Y : Spans nameByte t a b) (Z : Spans (either "=" blank) t b e) where
   let-reads : (i : Records → List ℕ → Names → Answer Records) (s : Records) → letStep limit i s (drop at t) ≡ (letBound s (underscored (part t a b)) (value limit s (dictionaryValue limit s 6) (drop e t) .0), value limit s (dictionaryValue limit s 6) (drop e t) .1)
   unfolding letStep _>>=_ _>>_ ret
@@ -75,7 +72,7 @@ module _ (limit : ℕ) {t : List ℕ} {at a b e : ℕ} (X : Spans blank t at a) 
       inside = R .inside;
       does = λ i s g. record {
         goes = λ y. absurd (true≢false (sym y));
-        stops = λ y. ap (λ x. guard sheetLength limit (x .0)) (let-reads i s) ∙ ap (λ x. guard sheetLength limit (letBound s (underscored (part t a b)) x)) (R .stops (holds-sheet g) h) ∙ within (bound s (refused (v .number))) refl g;
+        stops = λ y. ap (λ x. guard sheetLength limit (x .0)) (let-reads i s) ∙ ap (λ x. guard sheetLength limit (letBound s (underscored (part t a b)) x)) (R .stops (holds-sheet g) h) ∙ within-limit (bound s (refused (v .number))) refl g;
       };
       mark = λ y. absurd (true≢false (sym y));
     }

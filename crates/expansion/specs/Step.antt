@@ -18,7 +18,7 @@ use Rattle.sheet.specs.Find.{IsSheet}
 use Rattle.expansion.specs.declared.WriteStep.{WriteStep}
 use Rattle.let_steps.specs.declared.Let.{Let}
 use Rattle.expansion.specs.declared.step.Stepped.{Stepped}
-use Rattle.binding.specs.Use.{Holds, holds-sheet}
+use Rattle.binding.specs.Use.{within-limit, Holds, holds-sheet}
 use Rattle.let_steps.specs.Let.{Imports, Lets}
 use Rattle.expansion.specs.Reference.{Refers}
 use Rattle.expansion.specs.Call.{Does, StepsBy}
@@ -111,10 +111,7 @@ module _ {full : ℕ} {v : View} {t : List ℕ} {at : ℕ} (u : Unbound t at) {a
           });
     }
 
--- THE STEP, with its limit. What fits passes.
-pub passes : {s : Records} {l : List ℕ} {n limit : ℕ} (d : Did Records) → d .state ≡ s → Holds s l n limit → guard sheetLength limit d ≡ d .emit
-passes {s} {l} {n} {limit} d e h = guard-yes sheetLength limit d (le-leb _ limit (omega (arith, ap sheetLength e, h .long, h .fits)))
-
+-- THE STEP, with its limit.
 module _ {limit full : ℕ} {v : View} {t : List ℕ} {at : ℕ} {i : Bool} (I : Starts (bytes "#import") t at i) {b : List ℕ} {p : ℕ} (room : p ≤ length b) {l : List ℕ} {n : ℕ} where
   pub steps-import : {r : ℕ} → i ≡ true → Imports t (at + 7) r → Steps limit full v t at b p b l n l (record { ok = true; number = 0; whole = true; at = r; next = p; len = n })
   unfolding binds
@@ -124,7 +121,7 @@ module _ {limit full : ℕ} {v : View} {t : List ℕ} {at : ℕ} {i : Bool} (I :
     on = omega (arith, w .on);
     inside = w .inside;
     does = λ s h. subst (λ x. Took limit full x t b p b l (record { ok = true; number = 0; whole = true; at = r; next = p; len = n })) (sym (choose-import v s I e ∙ w .does s)) (record {
-      emits = subst (λ x. Emits full (length b) x b p b true 0 p) (sym (passes (binds s) refl h)) (emits-ok full (length b) b p 0 room);
+      emits = subst (λ x. Emits full (length b) x b p b true 0 p) (sym (within-limit (binds s) refl h)) (emits-ok full (length b) b p 0 room);
       rest = λ z. refl;
       wholes = λ z. refl;
       holds = λ z. h;
@@ -144,7 +141,7 @@ module _ {limit full : ℕ} {v : View} {t : List ℕ} {at : ℕ} {i : Bool} (I :
           subst (λ x. Took limit full x t b p b m (record { ok = r .ok; number = 9; whole = true; at = r .at; next = p; len = r .len })) (sym (choose-let v s I ni L e ∙ y .does)) (record {
             emits = record {
               size = refl;
-              goes = λ z. subst (λ x. Emits full (length b) x b p b true 9 p) (sym (passes (binds (y .to)) refl (y .goes z))) (emits-ok full (length b) b p 9 room) .goes refl;
+              goes = λ z. subst (λ x. Emits full (length b) x b p b true 9 p) (sym (within-limit (binds (y .to)) refl (y .goes z))) (emits-ok full (length b) b p 9 room) .goes refl;
               stops = λ z. ap (write full _) (guard-no sheetLength limit (binds (y .to)) (lt-leb _ limit (y .stops z))) ∙ (unfold write in refl);
             };
             rest = λ z. refl;
@@ -163,7 +160,7 @@ steps-writes {limit} {full} {v} {t} {at} {b} {p} {c} {l} {n} {r} w = record {
   does = λ s h.
       let y = w .does (holds-sheet h) in
       record {
-        emits = subst (λ x. Emits full (length b) x b p c (r .ok) (r .number) (r .next)) (sym (passes (expansionStep v s (drop at t) .0) (y .state) h)) (y .emits);
+        emits = subst (λ x. Emits full (length b) x b p c (r .ok) (r .number) (r .next)) (sym (within-limit (expansionStep v s (drop at t) .0) (y .state) h)) (y .emits);
         rest = y .rest;
         wholes = y .wholes;
         holds = λ z. subst (λ x. Holds x l n limit) (sym (y .state)) h;

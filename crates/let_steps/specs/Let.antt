@@ -10,7 +10,8 @@ use Rattle.rules.specs.Reader.{ret, _>>=_, _>>_, but, either, all}
 use Rattle.rules.specs.Bytes.{ascii, lineBlank, word, nameByte, underscored}
 use Rattle.rules.specs.Sheet.{Value, text, nothing, dictionary, Records, encode, sheetLength, goodValue, goodRecords, resolve, set}
 use Rattle.rules.specs.Expansion.{binds, importStep, letValue, letStep}
-use Rattle.rules.specs.Laws.Sheet.{resolve-good, set-good}
+use Rattle.rules.specs.Laws.Parts.{let-good}
+use Rattle.rules.specs.Laws.Sheet.{set-good}
 use Rattle.rules.specs.Laws.Texts.{underscored-words}
 use Rattle.scan.specs.Sets.{part, Spans, Skips}
 use Rattle.scan.specs.Stretches.{span-took, all-part}
@@ -108,12 +109,7 @@ module _ (b : List ℕ) (n : ℕ) (v : List ℕ) (f : Found) (told : (r : Record
       binds = λ s. let g = found-there (take n b) (resolve (s .r) v) f (gives-line s) h in rw (g .1) (w (g .0) (g .2));
     }
 
--- THE STEP. What a `#let` binds is good.
-good-line : (s : Records) (v : List ℕ) (x : Option Value) → resolve s v ≡ x → goodRecords s word 6 ≡ true → all ascii v ≡ true → goodValue (letValue v x) 6 ≡ true
-unfolding letValue goodValue
-good-line s v none e g a = a
-good-line s v (some w) e g a = resolve-good s word 6 v w g e
-
+-- THE STEP.
 module _ {t : List ℕ} {at : ℕ} {l : Line} (i : IsLine t at l) {b : List ℕ} {n limit : ℕ} {c : List ℕ} {o : Bound} (w : BindsLine b n limit (part t (l .from) (l .to)) (part t (l .start) (l .end)) c o) where
   pub let-over : {k : ℕ} → o ≡ Over → Lets limit t at b n c (record { ok = false; at = l .next; len = k })
   let-over e = record {
@@ -138,7 +134,7 @@ module _ {t : List ℕ} {at : ℕ} {l : Line} (i : IsLine t at l) {b : List ℕ}
             bytes = y .1;
             long = y .2;
             fits = y .0;
-            good = set-good (s .r) word 6 _ _ (s .good) (underscored-words _ (i .named)) (good-line (s .r) v (resolve (s .r) v) refl (s .good) (all-part ascii (l .start) (l .end) t a));
+            good = set-good (s .r) word 6 _ _ (s .good) (underscored-words _ (i .named)) (let-good (s .r) v (resolve (s .r) v) refl (s .good) (all-part ascii (l .start) (l .end) t a));
           };
           stops = λ z. absurd (true≢false z);
         };

@@ -13,6 +13,7 @@ use Rattle.rules.specs.Bundle.{bundleOf}
 use Rattle.rules.specs.Files.{view, fetch}
 use Rattle.rules.specs.Calls.{zeros, padded, findFileOf, parseDefinitionsOf, passOf}
 use Rattle.rules.specs.Manual.{decimal, answered, sheetFrom, outputFrom, setting, built, shown, manual, manualOf}
+use Rattle.rules.specs.Laws.Answer.{assoc}
 use Rattle.rules.specs.Laws.Calls.{parseDefinitions-holds, pass-holds}
 use Rattle.rules.specs.Laws.Found.{contentFrom, content-refused, content-absent, content-there, found-content, found-inside}
 use Rattle.rules.specs.Laws.Manual.{manual-holds}
@@ -35,11 +36,6 @@ pub record Shows (t out out₂ : List ℕ) (n : ℕ) : Type 0 where
   pub size : length out₂ ≡ length out
   pub fits : n ≤ length out
   pub is : take n out₂ ≡ t
-
-assoc : {A B C : Type 0} (a : Answer A) (f : A → Answer B) (g : B → Answer C) → (a >>= λ x. f x >>= g) ≡ (a >>= f >>= g)
-unfolding _>>=_
-assoc (refused k) f g = refl
-assoc (accepted x) f g = refl
 
 answered-refused : (k : ℕ) (r : List ℕ) → (k ≡ 0 → ⊥) → answered k r ≡ refused k
 unfolding answered

@@ -7,7 +7,7 @@ use lib.Dec.{eqb}
 use lib.ListN.{length, take, drop}
 use Rattle.rules.specs.Reader.{Reader, span, sees, skip, prefix, the, either, but}
 use Rattle.scan.specs.declared.Set.{Set}
-use Rattle.scan.specs.declared.Set.the-variants.{Blank, LineBlank, Letter, Word, Name, Run, CommaOrBlank, ColonOrBlank, EqualsOrLineBlank, EqualsOrBlank, UnderscoreOrLetter, Space, NotNewline, NotParen, NotBracket, NotQuote, NotQuoteNorBackslash, NotDot, NotSlash, Ascii}
+use Rattle.scan.specs.declared.Set.the-variants.{Blank, LineBlank, Letter, Word, Name, Run, CommaOrBlank, ColonOrBlank, EqualsOrLineBlank, EqualsOrBlank, UnderscoreOrLetter, Space, NotParen, NotQuoteNorBackslash, NotDot, NotSlash}
 use Rattle.rules.specs.Bytes.{ascii, blank, lineBlank, letter, word, nameByte, runByte}
 
 -- A byte that stands for itself in a literal: not `"` and not `\`.
@@ -28,14 +28,10 @@ member EqualsOrLineBlank = either "=" lineBlank
 member EqualsOrBlank = either "=" blank
 member UnderscoreOrLetter = either "_" letter
 member Space = the " "
-member NotNewline = but "\n"
 member NotParen = but ")"
-member NotBracket = but "]"
-member NotQuote = but "\""
 member NotQuoteNorBackslash = plainByte
 member NotDot = but "."
 member NotSlash = but "/"
-member Ascii = ascii
 
 -- One name to unfold the classes by.
 unfoldable pub classes : ℕ

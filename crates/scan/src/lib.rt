@@ -22,14 +22,10 @@ pub enum Set {
     EqualsOrBlank,
     UnderscoreOrLetter,
     Space,
-    NotNewline,
     NotParen,
-    NotBracket,
-    NotQuote,
     NotQuoteNorBackslash,
     NotDot,
     NotSlash,
-    Ascii,
 }
 
 // Is the byte in the set?
@@ -52,14 +48,10 @@ pub fn member(set: Set, x: u8) -> bool
         Set::EqualsOrBlank => (x == 61) | blank,
         Set::UnderscoreOrLetter => (x == 95) | letter,
         Set::Space => x == 32,
-        Set::NotNewline => x != 10,
         Set::NotParen => x != 41,
-        Set::NotBracket => x != 93,
-        Set::NotQuote => x != 34,
         Set::NotQuoteNorBackslash => (x != 34) & (x != 92),
         Set::NotDot => x != 46,
         Set::NotSlash => x != 47,
-        Set::Ascii => x < 128,
     }
 }
 

@@ -237,6 +237,11 @@ shuffle true true false = refl
 shuffle true false true = refl
 shuffle true false false = refl
 
+after-before : (n : List ℕ) (r : Records) → after (some n) r ≡ before n r
+unfolding after follows before
+after-before n end = refl
+after-before n (rec m w r) = refl
+
 module _ (l : ℕ) (inner : ℕ → List ℕ → Option (List ℕ)) (law : (n : ℕ) (b : List ℕ) → inner n b ≡ bind (levels l n b) (dictionaryTest l)) (p : ℕ → Bool) where
   abbrev held : (List ℕ × Shape) × List ℕ → Option (List ℕ × List ℕ)
   held x = bind (body inner (shapeKind (x .0 .1)) (shapeCount (x .0 .1)) (x .1)) (behind (x .0 .0))
@@ -278,10 +283,6 @@ module _ (l : ℕ) (inner : ℕ → List ℕ → Option (List ℕ)) (law : (n : 
     run-next c f (some y) e =
         guard-guard _ (goodRecords (y .0) p l && after (some n) (y .0)) (n, c) f (y .1) e
         ∙ ap (λ z. guard z (y .1)) (rw (after-before n (y .0)) (regroup (all p n) (goodValue v l) (follows last n) (goodRecords (y .0) p l) (before n (y .0))))
-      where
-        after-before : (n : List ℕ) (r : Records) → after (some n) r ≡ before n r
-        after-before n end = refl
-        after-before n (rec m w r) = refl
 
     -- The same up to the end of the bytes.
     abbrev withAll : Records → Option Records
@@ -294,10 +295,6 @@ module _ (l : ℕ) (inner : ℕ → List ℕ → Option (List ℕ)) (law : (n : 
     all-next c f (some y) e =
         guard-guard _ (goodRecords y p l && after (some n) y) (n, c) f end e
         ∙ ap (λ z. guard z end) (rw (after-before n y) (regroup (all p n) (goodValue v l) (follows last n) (goodRecords y p l) (before n y)))
-      where
-        after-before : (n : List ℕ) (r : Records) → after (some n) r ≡ before n r
-        after-before n end = refl
-        after-before n (rec m w r) = refl
 
   run-step : (k : ℕ) (last : Option (List ℕ)) (x : Option ((List ℕ × Value) × List ℕ)) → ((m : Option (List ℕ)) (b : List ℕ) → run inner p k m b ≡ bind (someRecords (levels l) k b) (runTest l p m)) →
       bind (bind x (oneTest l p last)) (λ y. run inner p k (some (y .0)) (y .1)) ≡ bind (bind x (λ r. bind (someRecords (levels l) k (r .1)) (withRecord last (r .0 .0) (r .0 .1)))) (runTest l p last)

@@ -33,3 +33,9 @@ module _ {A B : Type 0} where
   pub bind-accepted : (x : Answer A) (f : A → Answer B) {a : A} → x ≡ accepted a → (x >>= f) ≡ f a
   unfolding _>>=_
   bind-accepted x f h = rw h
+
+-- Binding associates.
+pub assoc : {A B C : Type 0} (a : Answer A) (f : A → Answer B) (g : B → Answer C) → (a >>= λ x. f x >>= g) ≡ (a >>= f >>= g)
+unfolding _>>=_
+assoc (refused k) f g = refl
+assoc (accepted x) f g = refl

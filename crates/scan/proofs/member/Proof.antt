@@ -54,18 +54,6 @@ enum-told-15 c = search needs
 enum-told-16 : tie.Need-enum-told-16
 enum-told-16 c = search needs
 
-enum-told-17 : tie.Need-enum-told-17
-enum-told-17 c = search needs
-
-enum-told-18 : tie.Need-enum-told-18
-enum-told-18 c = search needs
-
-enum-told-19 : tie.Need-enum-told-19
-enum-told-19 c = search needs
-
-enum-told-20 : tie.Need-enum-told-20
-enum-told-20 c = search needs
-
 returns : tie.Need-returns
 unfolding classes
 returns c = rw (c .enum-told .given .1) refl
@@ -130,22 +118,6 @@ returns-16 : tie.Need-returns-16
 unfolding classes
 returns-16 c = rw (c .enum-told16 .given .1) refl
 
-returns-17 : tie.Need-returns-17
-unfolding classes
-returns-17 c = rw (c .enum-told17 .given .1) refl
-
-returns-18 : tie.Need-returns-18
-unfolding classes
-returns-18 c = rw (c .enum-told18 .given .1) refl
-
-returns-19 : tie.Need-returns-19
-unfolding classes
-returns-19 c = rw (c .enum-told19 .given .1) refl
-
-returns-20 : tie.Need-returns-20
-unfolding classes
-returns-20 c = rw (c .enum-told20 .given .1) refl
-
 pub member-spec : {M : Type 1} → statement M
 member-spec =
     tie.close
@@ -166,10 +138,6 @@ member-spec =
     enum-told-14
     enum-told-15
     enum-told-16
-    enum-told-17
-    enum-told-18
-    enum-told-19
-    enum-told-20
     returns
     returns-2
     returns-3
@@ -185,8 +153,4 @@ member-spec =
     returns-13
     returns-14
     returns-15
-    returns-16
-    returns-17
-    returns-18
-    returns-19
-    returns-20)
+    returns-16)
