@@ -43,7 +43,8 @@ fn word(s: &[u8], at: usize) -> usize
     (s[at] as usize) + 256 * (s[at + 1] as usize)
 }
 
-// Does the map byte hold only bits of the mask, and at most one of a value?
+// Does the map byte hold only bits of the mask, and at most one of a value? The mask says which bits a record of its level may have: `BINDING` or
+// `ENTRY`, which are one number until bindings have a bit more (E3).
 fn allowed(m: u8, mask: u8) -> bool
     requires { ⌜ mask ≡ 15 ⌝ }
     ensures { λ r. ⌜ r ≡ goodMap m ⌝ }
