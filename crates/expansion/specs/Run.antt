@@ -220,7 +220,7 @@ module _ (limit full : ℕ) (v : View) (t b : List ℕ) (p : ℕ) where
                   record {
                     s = g .state;
                     going = going-on (guard sheetLength limit g) (Emitted (Left (g .state) (k .at))) (going-same (ap (λ x. write full (length b - r) (Emitted x)) o) (at-hash h)) (emits h) e;
-                    wholes = whole-hash h ∙ ap (λ x. w && allWhole x) o ∙ more (g .whole) (unrefused (g .emit)) (allWhole (Left (g .state) (k .at))) (took h .wholes e) (written-unrefused full (g .emit) (length b - r) (ap (write full (length b - r)) (sym (passes g refl (took h .holds e))) ∙ emits h .goes e .says));
+                    wholes = whole-hash h ∙ ap (λ x. w && allWhole x) o ∙ more (g .whole) (unrefused (g .emit)) (allWhole (Left (g .state) (k .at))) (took h .wholes e) (written-unrefused full (g .emit) (length b - r) (ap (write full (length b - r)) (sym (within-limit g refl (took h .holds e))) ∙ emits h .goes e .says));
                     finals = final-hash h ∙ ap final o;
                     holds = took h .holds e;
                   }
