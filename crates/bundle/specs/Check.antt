@@ -1,24 +1,24 @@
 -- The walk over a bundle's entries: what is still to be read, and the paths so far.
 use mathlib.Core.Path.{_≡_, refl, sym, ap, _∙_}
-use mathlib.Core.List.{List, [], _∷_, _++_, append-assoc, append-nil, map}
-use mathlib.Core.Bool.{Bool, true, false, not, _&&_, _||_, true≢false, and-false}
+use mathlib.Core.List.{List, [], _∷_, _++_, append-assoc, append-nil}
+use mathlib.Core.Bool.{Bool, true, false, _&&_, true≢false, and-false}
 use mathlib.Core.Option.{Option, none, some}
-use Prim.Native.Nat.{ℕ, zero, suc, _+_, _-_, _*_, _≤_, _<_}
+use Prim.Native.Nat.{ℕ, suc, _+_, _-_, _*_, _≤_, _<_}
 use native.Mathlib.Omega.{arith}
 use native.Mathlib.Decide.{decLe}
-use lib.Dec.{eqb, ltb, leb}
-use lib.ListN.{length, take, drop, getD, drop-of-length-le, length-drop, length-take}
+use lib.Dec.{eqb, leb}
+use lib.ListN.{length, take, drop, getD, length-drop}
 use lib.Seq.{length-take-le}
-use borrow.Author.Tests.{le-leb, lt-leb, eq-eqb, ne-eqb, leb-true, leb-false, not-true, not-false}
-use Rattle.rules.specs.Bytes.{isPath, join, less}
-use Rattle.rules.specs.Layout.{Parser, bind, _>>=_, _>>_, pure, require, broken, remaining, word16, times}
+use borrow.Author.Tests.{le-leb, lt-leb, eq-eqb, ne-eqb, leb-false, not-true}
+use Rattle.rules.specs.Bytes.{isPath, less}
+use Rattle.rules.specs.Layout.{Parser, bind, _>>=_, _>>_, pure, require, broken, remaining, times}
 use Rattle.rules.specs.Bundle.{Entry, entry, goodPaths, pathsOf, bundleParser, bundleOf}
-use Rattle.rules.specs.Laws.Bool.{and-l, and-r, and-i, and-false-r, isSome}
+use Rattle.rules.specs.Laws.Bool.{and-l, and-r, isSome}
 use Rattle.rules.specs.Laws.Layout.{word-at, word-end}
 use Rattle.scan.specs.Paths.{path-long, Joins}
 use Rattle.scan.specs.declared.paths.Joined.{Joined}
 use Rattle.bundle.specs.Entries.{entryOf, headAnswer, HeadAt}
-use Rattle.bundle.specs.Order.{Well, Marks, Marked, Agree, keeps, well-start, well-on, marks-on, bad-path, bad-order, bad-clash, well-good, ordered-none}
+use Rattle.bundle.specs.Order.{Well, Marks, Marked, Agree, keeps, well-start, well-on, marks-on, bad-path, bad-order, bad-clash, well-good, order-inside}
 use Rattle.bundle.specs.declared.entries.Head.{Head}
 use Rattle.bundle.specs.declared.walk.Walk.{Walk}
 
@@ -90,24 +90,13 @@ path-of b h {r} j =
 module _ {x q : List ℕ} {k : ℕ} (s : Agree x q k) (o : List ℕ) {c : Bool} (e : c ≡ keeps x q k o) where
   pub keeps-inside : c ≡ true → k < length q
   unfolding keeps
-  keeps-inside t = at (decLe (length q) k)
-    where
-      ordered : less x q ≡ true
-      ordered = and-l (less x q) _ (and-r (isPath q) _ (sym e ∙ t))
-
-      at : Dec (length q ≤ k) → k < length q
-      at (yes h) = absurd (true≢false (sym ordered ∙ sym (ordered-none s h)))
-      at (no h) = omega arith
+  keeps-inside t = order-inside s refl (and-l (less x q) _ (and-r (isPath q) _ (sym e ∙ t)))
 
   broken-at : {ps : List (List ℕ)} (a d f : Bool) → isPath q ≡ a → less x q ≡ d → (eqb (getD q k 0) 47 && eqb (getD o k 0) 1) ≡ f → c ≡ false → Well ps x → Marks ps x o → (rest : List (List ℕ)) → goodPaths (ps ++ (q ∷ rest)) ≡ false
   unfolding keeps
   broken-at false d f p l g t w m rest = bad-path w q p rest
   broken-at true false f p l g t w m rest = bad-order w q l rest
-  broken-at true true true p l g t w m rest = bad-clash w q s m (inside (decLe (length q) k)) g rest
-    where
-      inside : Dec (length q ≤ k) → k < length q
-      inside (yes h) = absurd (true≢false (sym l ∙ sym (ordered-none s h)))
-      inside (no h) = omega arith
+  broken-at true true true p l g t w m rest = bad-clash w q s m (order-inside s refl l) g rest
   broken-at true true false p l g t w m rest = absurd (true≢false (sym (e ∙ rw (p, l, g)) ∙ t))
 
 module _ (x q : List ℕ) (k : ℕ) (o : List ℕ) (h : keeps x q k o ≡ true) where
@@ -298,6 +287,3 @@ walking-end b {n} {w} h W =
         at : Dec (length b ≤ i) → leb (length (drop i b)) 0 ≡ eqb i (length b)
         at (yes l) = le-leb (length (drop i b)) 0 (omega (arith, length-drop i b)) ∙ sym (eq-eqb i (length b) (omega arith))
         at (no l) = lt-leb (length (drop i b)) 0 (omega (arith, length-drop i b)) ∙ sym (ne-eqb i (length b) (λ e. absurd (omega arith)))
-
-pub start-length : (n : ℕ) (x : List ℕ) → length x ≡ 255 → n ≤ 255 → n ≡ length (take n x)
-start-length n x e h = sym (length-take-le n x (omega arith))

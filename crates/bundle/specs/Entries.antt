@@ -1,22 +1,22 @@
 -- One entry of a bundle: what reading its fields promises.
 use mathlib.Core.Path.{_≡_, refl, sym, ap, _∙_}
-use mathlib.Core.List.{List, [], _++_}
-use mathlib.Core.Bool.{Bool, true, false, not, _&&_, _||_, true≢false, and-false}
+use mathlib.Core.List.{List, []}
+use mathlib.Core.Bool.{Bool, true, false, not, _&&_, _||_, true≢false}
 use mathlib.Core.Option.{Option, none, some}
 use Prim.Native.Nat.{ℕ, zero, suc, _+_, _-_, _*_, _/_, _%_, _^_, _≤_, _<_}
 use native.Mathlib.Omega.{arith}
 use native.Mathlib.Nat.{mod-lt, mod-eq-of-lt, zero-mul, one-mul}
 use lib.Pow.{pow-pos}
 use lib.Bits.{bitAnd, and-high, and-mask}
-use lib.Dec.{eqb, ltb, leb}
-use lib.ListN.{length, take, drop, getD, drop-of-length-le, length-drop, length-take}
+use lib.Dec.{eqb, ltb}
+use lib.ListN.{length, take, drop, getD, drop-of-length-le, length-drop}
 use lib.Seq.{drop-drop, length-take-le}
-use borrow.Author.Tests.{le-ltb, lt-ltb, leb-true, leb-false, not-true, not-false, eq-eqb, ne-eqb, le-leb, lt-leb, ltb-true, ltb-false, eqb-true, eqb-false}
+use borrow.Author.Tests.{eq-eqb, ne-eqb, ltb-true, ltb-false, eqb-true, eqb-false}
 use Rattle.rules.specs.Reader.{empty, all, but}
 use Rattle.rules.specs.Bytes.{holds, join}
 use Rattle.rules.specs.Layout.{Parser, bind, _>>=_, _>>_, pure, broken, require, bit, remaining, byte, word16, field, fieldIf, takeBytes}
 use Rattle.rules.specs.Bundle.{Entry, entry}
-use Rattle.rules.specs.Laws.Bool.{and-l, and-r, and-i, or-elim, or-false-l, or-false-r}
+use Rattle.rules.specs.Laws.Bool.{or-elim, or-false-l, or-false-r}
 use Rattle.rules.specs.Laws.Layout.{byte-at, byte-end, word-at, word-end, takes, takes-short, take-some}
 use Rattle.scan.specs.Sets.{Spans}
 use Rattle.scan.specs.Laws.{span-all, all-span}

@@ -1,24 +1,25 @@
 -- Looking a path up in a bundle.
 use mathlib.Core.Path.{_≡_, refl, sym, ap, _∙_}
 use mathlib.Core.List.{List, [], _∷_, _++_}
-use mathlib.Core.Bool.{Bool, true, false, not, _&&_, _||_, true≢false, or-assoc, or-false}
+use mathlib.Core.Bool.{Bool, true, false, _&&_, _||_, true≢false, and-assoc, or-assoc, or-false}
 use mathlib.Core.Option.{Option, none, some}
-use Prim.Native.Nat.{ℕ, zero, suc, _+_, _-_, _*_, _≤_, _<_}
+use Prim.Native.Nat.{ℕ, suc, _+_, _-_, _*_, _≤_, _<_}
 use native.Mathlib.Omega.{arith}
 use native.Mathlib.Decide.{decLe}
-use lib.Dec.{eqb, ltb, leb}
-use lib.ListN.{length, take, drop, getD, drop-of-length-le, length-drop}
-use lib.Seq.{length-take-le, drop-cons}
-use borrow.Author.Tests.{le-leb, not-true, eq-eqb, eqb-true}
-use Rattle.rules.specs.Reader.{bytes, all, prefix, same, sees}
-use Rattle.rules.specs.Bytes.{isPath, join}
+use lib.Dec.{eqb, leb}
+use lib.ListN.{length, take, drop, getD, length-drop}
+use lib.Seq.{length-take-le}
+use borrow.Author.Tests.{eq-eqb, eqb-true}
+use Rattle.rules.specs.Reader.{all, prefix, same, sees}
+use Rattle.rules.specs.Bytes.{isPath}
 use Rattle.rules.specs.Layout.{Parser, bind, _>>=_, _>>_, pure, times}
-use Rattle.rules.specs.Bundle.{Entry, entry, above, ascending, goodPaths, pathsOf, bundleOf, bundleParser}
+use Rattle.rules.specs.Bundle.{Entry, entry, above, ascending, goodPaths, pathsOf, bundleOf}
 use Rattle.rules.specs.Files.{File, absent, folder, file, entryAt, isFolderOf, fileOf, view}
-use Rattle.rules.specs.Laws.Bool.{and-l, and-r, and-i, true-leb, isSome}
+use Rattle.rules.specs.Laws.Bool.{and-l, and-r, isSome}
+use Rattle.rules.specs.Laws.Found.{some-same}
 use Rattle.scan.specs.Sets.{Starts, Sees, byteIs}
 use Rattle.bundle.specs.Entries.{entryOf, headAnswer, HeadAt}
-use Rattle.bundle.specs.Check.{PathOf, closing, finish, bundle-rest, check-short}
+use Rattle.bundle.specs.Check.{closing, finish, bundle-rest, check-short}
 use Rattle.bundle.specs.declared.entries.Head.{Head}
 use Rattle.bundle.specs.declared.near.Relation.{Relation}
 use Rattle.bundle.specs.declared.Found.{Found}
@@ -86,10 +87,6 @@ prefix-slash [] (x ∷ xs) = at (eqb x 47) (eqb 47 x) (eqb-comm 47 x)
     at c false e = e
 prefix-slash (c ∷ p) [] = refl
 prefix-slash (c ∷ p) (x ∷ xs) = ap (λ z. eqb c x && z) (prefix-slash p xs) ∙ sym (and-assoc (eqb c x) (prefix p xs) _)
-  where
-    and-assoc : (a b c : Bool) → (a && b && c) ≡ (a && (b && c))
-    and-assoc true b c = refl
-    and-assoc false b c = refl
 
 module _ (p q : List ℕ) {r : Bool} (s : Starts p q 0 r) where
   pub above-no : r ≡ false → false ≡ above p q
@@ -145,9 +142,6 @@ finding-start b p {n} h e =
       asked = ap (λ es. entryAt es p) z;
       folders = ap (λ es. isFolderOf es p) z;
     }
-
-some-same : {A : Type 0} {a b : A} → _≡_ {A = Option A} (some a) (some b) → a ≡ b
-some-same h = cc
 
 asked-yes : (e : Entry) (es : List Entry) (p : List ℕ) → same (e .path) p ≡ true → entryAt (e ∷ es) p ≡ some e
 unfolding entryAt

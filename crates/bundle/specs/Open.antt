@@ -1,17 +1,17 @@
 -- Opening a file, and the search for `CITATION.cff`.
 use mathlib.Core.Path.{_≡_, refl, sym, ap, _∙_}
-use mathlib.Core.List.{List, [], _∷_, _++_}
-use mathlib.Core.Bool.{Bool, true, false, not, true≢false}
+use mathlib.Core.List.{List, [], _∷_}
+use mathlib.Core.Bool.{Bool, true, false, true≢false}
 use Prim.Native.Nat.{ℕ, zero, suc, _+_, _-_, _≤_, _<_}
 use native.Mathlib.Omega.{arith}
 use lib.Dec.{leb}
 use lib.ListN.{length, take, drop}
 use lib.Seq.{length-take-le, take-length, take-take}
 use Rattle.rules.specs.Answer.{Answer, refused, accepted, _>>=_, _>>_, check}
-use Rattle.rules.specs.Reader.{bytes, all, but}
+use Rattle.rules.specs.Reader.{bytes, all}
 use Rattle.rules.specs.Bytes.{ascii, isPath, join, parent, holds}
 use Rattle.rules.specs.Bundle.{Entry}
-use Rattle.rules.specs.Files.{View, File, absent, folder, file, view, contentOf, fetch, plain, opened, exists, hasCitation, upward, projectRoot}
+use Rattle.rules.specs.Files.{View, view, contentOf, fetch, plain, opened, exists, hasCitation, upward, projectRoot}
 use borrow.Author.Tests.{leb-false}
 use Rattle.scan.specs.Paths.{path-long, Parent}
 use Rattle.bundle.specs.Find.{Finds, fileAt}

@@ -3,12 +3,12 @@ use mathlib.Core.Path.{_≡_, refl, sym, ap, _∙_}
 use mathlib.Core.Logic.{_⊎_, inl, inr, ⊎-elim}
 use mathlib.Core.List.{List, [], _∷_, _++_, append-assoc}
 use mathlib.Core.Bool.{Bool, true, false, not, _&&_, true≢false, false≢true, or-false}
-use Prim.Native.Nat.{ℕ, zero, suc, _+_, _≤_, _<_}
+use Prim.Native.Nat.{ℕ, suc, _+_, _≤_, _<_}
 use native.Mathlib.Omega.{arith}
 use native.Mathlib.Decide.{decLe}
 use native.Mathlib.Numerals.{add-one}
-use lib.Dec.{eqb, ltb, leb}
-use lib.ListN.{length, take, drop, getD, set, length-set, length-append, length-drop, take-append-drop, drop-of-length-le, List·getD-append}
+use lib.Dec.{eqb, ltb}
+use lib.ListN.{length, take, drop, getD, set, length-set, length-append, take-append-drop, drop-of-length-le, List·getD-append}
 use lib.Seq.{take-suc, getD-set-same, getD-set-other, drop-cons, split-at, take-length, take-append-seam, take-take, length-take-le, getD-take, getD-append-seam}
 use borrow.Author.Tests.{le-ltb, eq-eqb, ne-eqb, eqb-true}
 use Rattle.rules.specs.Reader.{all, prefix, bytes}

@@ -1,7 +1,6 @@
 // How an entry's path stands to a path that is asked for.
 ghost use mathlib.Core.Path.{_≡_};
 ghost use Rattle.rules.specs.Bundle.{above};
-ghost use Rattle.bundle.specs.Entries.{entryOf};
 ghost use Rattle.bundle.specs.Find.{Near, Reachable};
 use crate::entries::Head;
 use crate::walk::path_of;

@@ -1,6 +1,6 @@
 // A walk over a bundle's entries that checks their paths.
 ghost use mathlib.Core.Path.{_≡_};
-ghost use Prim.Native.Nat.{_+_, _≤_, _<_};
+ghost use Prim.Native.Nat.{_+_, _≤_};
 ghost use lib.ListN.{length};
 ghost use Rattle.bundle.specs.Check.{PathOf, Starts, Follows, Next, Room};
 use crate::entries::Head;

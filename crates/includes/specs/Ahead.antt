@@ -1,17 +1,17 @@
 -- Bytes that lie ahead: what is known of them, and the next two quotes.
 use mathlib.Core.Path.{_≡_, refl, sym, ap, _∙_}
-use mathlib.Core.List.{List, [], _∷_, _++_}
+use mathlib.Core.List.{List}
 use mathlib.Core.Bool.{Bool, true, false, _&&_, true≢false}
 use Prim.Native.Char.{Char}
-use Prim.Native.Nat.{ℕ, zero, suc, _+_, _-_, _≤_, _<_}
+use Prim.Native.Nat.{ℕ, _+_, _≤_, _<_}
 use native.Mathlib.Omega.{arith}
 use lib.Dec.{leb}
-use lib.ListN.{length, take, drop, getD}
+use lib.ListN.{length, drop, getD}
 use borrow.Author.Tests.{leb-true}
-use Rattle.rules.specs.Reader.{span, sees, skip, the, but, _>>=_, _>>_, ret}
-use Rattle.rules.specs.Includes.{Quoted, unquoted, quoted, quotedIf, quote}
+use Rattle.rules.specs.Reader.{skip, the, but, _>>=_, _>>_, ret}
+use Rattle.rules.specs.Includes.{quotedIf, quote}
 use Rattle.rules.specs.Laws.Bool.{and-l, and-r}
-use Rattle.scan.specs.Sets.{part, Spans, Skips, Sees, notByte, byteIs}
+use Rattle.scan.specs.Sets.{part, Spans, Skips, Sees, notByte}
 use Rattle.scan.specs.Laws.{but-no, sees-is, sees-end, skips-at}
 use Rattle.scan.specs.Stretches.{spans-later, spans-stop}
 use Rattle.includes.specs.declared.ahead.Ahead.{Ahead}

@@ -1,18 +1,18 @@
 -- The files that marks name, and the blocks and newlines that are put.
 use mathlib.Core.Path.{_≡_, refl, sym, ap, subst, _∙_}
-use mathlib.Core.List.{List, [], _∷_, _++_, append-assoc}
-use mathlib.Core.Bool.{Bool, true, false, not, _&&_, true≢false}
-use Prim.Native.Nat.{ℕ, zero, suc, _+_, _-_, _≤_, _<_}
+use mathlib.Core.List.{List, [], _∷_, _++_}
+use mathlib.Core.Bool.{Bool, true, false, true≢false}
+use Prim.Native.Nat.{ℕ, suc, _+_, _-_, _≤_, _<_}
 use native.Mathlib.Omega.{arith}
 use lib.Dec.{leb, eqb}
-use lib.ListN.{length, take, drop, getD}
+use lib.ListN.{length, take, getD}
 use lib.Seq.{length-take-le, take-take}
-use borrow.Author.Tests.{le-leb, lt-leb, leb-true, leb-false, eq-eqb, ne-eqb}
-use Rattle.rules.specs.Answer.{Answer, refused, accepted, _>>=_, _>>_, check}
+use borrow.Author.Tests.{eq-eqb, ne-eqb}
+use Rattle.rules.specs.Answer.{Answer, refused, accepted}
 use Rattle.rules.specs.Reader.{bytes, all, empty}
 use Rattle.rules.specs.Run.{Emit, ok, put, fail, andThen, run, emitted, endsInNewline}
 use Rattle.rules.specs.Bytes.{ascii, join, parent}
-use Rattle.rules.specs.Files.{View, fetch, opened, plain}
+use Rattle.rules.specs.Files.{View, fetch, opened}
 use Rattle.rules.specs.Includes.{lastNewline, fenced, included, insideFile, includeStep}
 use Rattle.buffers.specs.Put.{Put, Writer}
 use Rattle.buffers.specs.Laws.{put-length, put-writer, put-then}
@@ -24,7 +24,7 @@ use Rattle.bundle.specs.declared.Opened.{Opened}
 use Rattle.bundle.specs.declared.Opened.the-variants.{Refused, Text}
 use Rattle.includes.specs.declared.files.File.{File}
 use Rattle.scan.specs.Sets.{part}
-use Rattle.buffers.specs.Emits.{Emits, Writes, write-refused, Going, going-start, going-on, going-no, going-end, emits-put, emits-fail}
+use Rattle.buffers.specs.Emits.{Emits, write-refused, Going, going-start, going-on, going-no, going-end, emits-put, emits-fail}
 
 -- A file that is refused.
 abbrev pub refusedFile : ℕ → List ℕ → File

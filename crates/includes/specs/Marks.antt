@@ -1,23 +1,20 @@
 -- Marks in a text: a stretch without marks is copied, and the stretch before a mark may comment it.
 use mathlib.Core.Path.{_≡_, refl, sym, ap, _∙_}
 use mathlib.Core.List.{List, [], _∷_, _++_, append-assoc, append-nil}
-use mathlib.Core.Bool.{Bool, true, false, not, _&&_, true≢false}
-use Prim.Native.Nat.{ℕ, zero, suc, _+_, _-_, _≤_, _<_}
+use mathlib.Core.Bool.{Bool, true, false, not, true≢false}
+use Prim.Native.Nat.{ℕ, suc, _+_, _-_, _≤_, _<_}
 use native.Mathlib.Omega.{arith}
 use native.Mathlib.Decide.{decLe}
-use native.Mathlib.Numerals.{add-one}
-use native.Mathlib.Nat.{sub-zero, sub-self}
 use lib.Dec.{eqb}
-use lib.ListN.{length, take, drop, getD, length-drop, drop-of-length-le}
-use lib.Seq.{drop-cons, drop-drop, length-take-le, take-add, getD-take, getD-drop}
+use lib.ListN.{length, take, drop, getD, drop-of-length-le}
+use lib.Seq.{drop-cons, drop-drop, take-add}
 use borrow.Author.Tests.{eq-eqb, ne-eqb}
-use Rattle.rules.specs.Reader.{bytes, the, but, all, span, prefix, mark, ifR, _>>=_}
-use Rattle.rules.specs.Run.{Emit, ok, put, andThen, Did, Step, Trace, step, run, emitted, allWhole, unrefused, write}
+use Rattle.rules.specs.Reader.{bytes, the, but, all, span, prefix, ifR, _>>=_}
+use Rattle.rules.specs.Run.{Emit, put, run, emitted, allWhole, write}
 use Rattle.rules.specs.Bytes.{blank}
 use Rattle.rules.specs.Files.{View}
 use Rattle.rules.specs.Includes.{includeStep, copyByte, commented}
-use Rattle.rules.specs.Laws.Bool.{and-l, and-r, and-i}
-use Rattle.rules.specs.Laws.Enough.{run-step}
+use Rattle.rules.specs.Laws.Bool.{and-l, and-r}
 use Rattle.scan.specs.Sets.{Spans, Starts, Stands, notByte}
 use Rattle.scan.specs.Laws.{but-yes, mark-of, stands}
 use Rattle.scan.specs.Stretches.{spans-each}

@@ -1,21 +1,20 @@
 -- What stands at a mark: the step of the rules, read and not yet done.
 use mathlib.Core.Path.{_≡_, refl, sym, ap, _∙_}
-use mathlib.Core.List.{List, [], _++_}
+use mathlib.Core.List.{List, []}
 use mathlib.Core.Bool.{Bool, true, false, not, _&&_}
-use Prim.Native.Nat.{ℕ, zero, suc, _+_, _-_, _≤_, _<_}
+use Prim.Native.Nat.{ℕ, _+_, _-_, _≤_, _<_}
 use native.Mathlib.Omega.{arith}
 use native.Mathlib.Numerals.{add-one}
-use lib.Dec.{ltb, eqb}
+use lib.Dec.{ltb}
 use lib.ListN.{length, drop, drop-of-length-le}
 use lib.Seq.{drop-drop, drop-cons}
-use borrow.Author.Tests.{eqb-true, eqb-false}
-use Rattle.rules.specs.Reader.{Reader, bytes, the, but, empty, prefix, span, sees, skip, mark, ret, ifR, _>>=_, _>>_}
-use Rattle.rules.specs.Run.{Emit, ok, put, fail, Did}
-use Rattle.rules.specs.Bytes.{blank, trim, join}
+use Rattle.rules.specs.Reader.{Reader, bytes, the, but, empty, ret, ifR, _>>=_, _>>_}
+use Rattle.rules.specs.Run.{Emit, ok, put, Did}
+use Rattle.rules.specs.Bytes.{blank, join}
 use Rattle.rules.specs.Files.{View, fetch, opened, projectRoot}
-use Rattle.rules.specs.Includes.{Quoted, unquoted, quoted, quotedIf, quote, Source, noParen, noPath, noLanguage, source, withLanguage, withPath, sourceArguments, overParen, toNewline, behindSource, fenced, wrote, copied, commented, included, includeOf, includeMark, sourceText, sourceOf, sourceMark, includeStep}
-use Rattle.scan.specs.Sets.{part, Spans, Skips, Sees, Starts, Stands, notByte}
-use Rattle.scan.specs.Laws.{not-end, skips-at, mark-of, stands}
+use Rattle.rules.specs.Includes.{quoted, quotedIf, quote, noParen, withLanguage, withPath, sourceArguments, overParen, toNewline, behindSource, fenced, wrote, copied, commented, included, includeOf, includeMark, sourceText, sourceOf, sourceMark, includeStep}
+use Rattle.scan.specs.Sets.{part, Spans, Skips, Sees, Stands, notByte}
+use Rattle.scan.specs.Laws.{not-end, skips-at, mark-of}
 use Rattle.scan.specs.Paths.{Trims}
 use Rattle.scan.specs.declared.paths.Range.{Range}
 use Rattle.includes.specs.declared.ahead.Ahead.{Ahead}
@@ -25,8 +24,7 @@ use Rattle.includes.specs.declared.read.Reading.{Reading}
 use Rattle.includes.specs.declared.read.Reading.the-variants.{Copied, Include as Included, Source as Shown}
 use Rattle.includes.specs.declared.read.Read.{Read}
 use Rattle.includes.specs.declared.read.Behind.{Behind}
-use Rattle.includes.specs.Ahead.{Knows, KnowsAll, Quotes, knows-new, sees-stop, sees-none}
-use Rattle.scan.specs.Stretches.{spans-but}
+use Rattle.includes.specs.Ahead.{Knows, KnowsAll, Quotes}
 use Rattle.includes.specs.declared.marks.Mark.{Mark}
 use Rattle.includes.specs.declared.marks.Mark.the-variants.{Include, SourceInclude}
 use Rattle.includes.specs.Marks.{markText, IsMark, mark-is, mark-first, mark-stands, stretch}

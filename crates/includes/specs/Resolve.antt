@@ -1,18 +1,17 @@
 -- The resolver: its loop over the marks of a text, and what is done at a mark.
 use mathlib.Core.Path.{_≡_, refl, sym, ap, _∙_}
-use mathlib.Core.List.{List, [], _∷_, _++_}
+use mathlib.Core.List.{List, []}
 use mathlib.Core.Bool.{Bool, true, false, _&&_, true≢false, and-true}
-use Prim.Native.Nat.{ℕ, zero, suc, _+_, _-_, _≤_, _<_}
+use Prim.Native.Nat.{ℕ, _+_, _-_, _≤_, _<_}
 use native.Mathlib.Omega.{arith}
 use lib.Dec.{leb}
 use borrow.Author.Tests.{le-leb, lt-leb}
 use lib.ListN.{length, take, drop, replicate, drop-of-length-le}
-use Rattle.rules.specs.Answer.{Answer, refused}
 use Rattle.rules.specs.Reader.{bytes}
 use Rattle.rules.specs.Run.{Emit, ok, put, andThen, unrefused, Trace, step, run, emitted, allWhole, write}
 use Rattle.rules.specs.Bytes.{join}
-use Rattle.rules.specs.Files.{View, fetch, opened, projectRoot}
-use Rattle.rules.specs.Includes.{fenced, included, insideFile, includeStep, wrote}
+use Rattle.rules.specs.Files.{View, opened, projectRoot}
+use Rattle.rules.specs.Includes.{fenced, insideFile, includeStep, wrote}
 use Rattle.rules.specs.Laws.Bool.{and-three}
 use Rattle.rules.specs.Laws.Limit.{written-unrefused}
 use Rattle.rules.specs.Laws.Enough.{run-at}

@@ -11,7 +11,6 @@ ghost use Rattle.rules.specs.Includes.{insideFile, includeStep};
 ghost use Rattle.buffers.specs.Put.{Writer};
 ghost use Rattle.rules.specs.Laws.Bool.{isSome};
 ghost use Rattle.bundle.specs.Find.{entriesOf};
-ghost use Rattle.buffers.specs.Emits.{Emits};
 ghost use Rattle.includes.specs.Resolve.{putOnly, Handles, refusedText, finishedText, Resolves};
 ghost use Rattle.includes.specs.Read.{Within};
 

@@ -16,7 +16,7 @@ ghost use lib.ListN.{length, drop};
 ghost use Rattle.rules.specs.Reader.{bytes};
 ghost use Rattle.rules.specs.Includes.{includeMark, sourceMark, includeStep};
 ghost use Rattle.scan.specs.Sets.{notByte, part, Stands};
-ghost use Rattle.includes.specs.Ahead.{Knows, KnowsAll, Quotes};
+ghost use Rattle.includes.specs.Ahead.{Knows, KnowsAll};
 ghost use Rattle.includes.specs.Marks.{IsMark, markText, stretch};
 ghost use Rattle.includes.specs.Read.{copiedRead, knownPair, Reads, Behinds, HasPath};
 

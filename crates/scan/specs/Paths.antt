@@ -463,6 +463,10 @@ drop-take (suc a) (suc n) (x ∷ xs) = rw suc-sub-suc (drop-take a n xs)
 pub tail-part : (t : List ℕ) (a : ℕ) → take (length t - a) (drop a t) ≡ drop a t
 tail-part t a = take-all (length t - a) (drop a t) (omega (arith, length-drop a t))
 
+-- A path's start in the array that holds it.
+pub start-length : (n : ℕ) (x : List ℕ) → length x ≡ 255 → n ≤ 255 → n ≡ length (take n x)
+start-length n x e h = sym (length-take-le n x (omega arith))
+
 -- The trimmed part: behind the leading blanks, up to the trailing ones.
 pub trims : (t : List ℕ) (from to a n : ℕ) → from ≤ to → to ≤ length t
     → Spans blank (take (to - from) (drop from t)) 0 a

@@ -4,23 +4,20 @@ use mathlib.Core.List.{List, [], _∷_, _++_, append-assoc, append-nil}
 use mathlib.Core.Bool.{Bool, true, false, not, _&&_, true≢false}
 use mathlib.Core.Option.{Option}
 use Prim.Native.Char.{Char, code}
-use Prim.Native.Nat.{ℕ, zero, suc, _+_, _-_, _≤_, _<_}
+use Prim.Native.Nat.{ℕ, suc, _+_, _-_, _≤_, _<_}
 use native.Mathlib.Omega.{arith}
 use native.Mathlib.Numerals.{add-one, add-two}
-use native.Mathlib.Nat.{add-zero}
-use lib.Dec.{eqb, ltb}
 use lib.ListN.{length, take, drop, getD, length-drop, drop-of-length-le}
 use lib.Seq.{drop-cons, drop-drop}
 use borrow.Author.Tests.{eq-eqb, ne-eqb}
-use Rattle.rules.specs.Reader.{Reader, ret, ifR, _>>=_, _>>_, the, but, either, span, sees, rounds, Turn, again, stop}
+use Rattle.rules.specs.Reader.{ret, ifR, _>>=_, _>>_, the, but, either, span, rounds, again, stop}
 use Rattle.rules.specs.Bytes.{word, lineBlank, letter, runByte, underscored}
 use Rattle.rules.specs.Strings.{escape, onto, literalFrom, literal, reference, plus, expressionRound, expression}
 use Rattle.rules.specs.Laws.Enough.{rounds-again, rounds-stop, expression-moving}
-use Rattle.rules.specs.Laws.Bool.{and-l, and-r, and-i, true-eqb}
 use Rattle.rules.specs.Sheet.{Value, Records, encode, goodRecords, resolve, resolveString, textOf}
 use Rattle.sheet.specs.declared.lookup.Found.{Found}
 use Rattle.sheet.specs.declared.lookup.Found.the-variants.{Text}
-use Rattle.sheet.specs.Parts.{Part, part-slice}
+use Rattle.sheet.specs.Parts.{part-slice}
 use Rattle.sheet.specs.Order.{underscoredIf}
 use Rattle.sheet.specs.Find.{IsSheet, Gives, foundText, gives-string}
 use Rattle.scan.specs.Laws.{seen, skip-at}
@@ -28,7 +25,7 @@ use Rattle.scan.specs.Paths.{tail-part}
 use Rattle.scan.specs.Stretches.{span-stops}
 use Rattle.scan.specs.Sets.{plainByte, Spans, Sees}
 use Rattle.buffers.specs.Put.{Put, Writer}
-use Rattle.buffers.specs.Laws.{put-none, put-then, put-writer, put-length}
+use Rattle.buffers.specs.Laws.{put-none, put-then}
 use Rattle.strings.specs.Read.{Wrote, IsTerm}
 
 onto-onto : (a b : List ℕ) (r : List ℕ × List ℕ) → onto a (onto b r) ≡ onto (a ++ b) r

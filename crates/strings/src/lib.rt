@@ -1,6 +1,5 @@
 // Strings and expressions (document 01, section 3). Each reader gets the part of the text that starts at the cursor, and the
 // buffers' writer puts what it reads.
-ghost use mathlib.Core.Path.{_≡_};
 ghost use Prim.Native.Nat.{_≤_};
 ghost use lib.ListN.{length};
 ghost use Rattle.rules.specs.Bytes.{underscored};

@@ -7,7 +7,6 @@ use Rattle.bundle.proofs.entries.word.Reads as word-reads
 use Rattle.bundle.proofs.walk.next.Reads as next-reads
 use Rattle.bundle.proofs.walk.start.Reads as start-reads
 use borrow.Author.Tests.{not-true, not-false}
-use native.Mathlib.Omega.{arith}
 use Rattle.bundle.specs.Check.{Walking, check-short, walking-start, walking-on, walking-no, walking-end}
 
 abbrev Inv-loop : tie.InvT-loop

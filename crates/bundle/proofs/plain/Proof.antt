@@ -4,7 +4,6 @@ use Rattle.bundle.proofs.plain.Tie as tie
 use Rattle.bundle.proofs.plain.Reads as reads
 use Rattle.bundle.proofs.plain.Lts as lts
 use Rattle.scan.proofs.is_ascii.Reads as is-ascii-reads
-use native.Mathlib.Omega.{arith}
 use Rattle.bundle.specs.Open.{plain-yes, plain-no}
 
 add-end : tie.Need-add-end

@@ -15,17 +15,15 @@ use Rattle.includes.proofs.read.read_mark.Reads as read-mark-reads
 use Rattle.includes.proofs.refused.Reads as refused-reads
 use Rattle.includes.proofs.+resolve.{statement}
 use Rattle.includes.proofs.+resolve.Tie.{close}
-use mathlib.Core.Path.{_≡_, sym, ap, _∙_}
+use mathlib.Core.Path.{sym, ap, _∙_}
 use mathlib.Core.Logic.{⊎-elim}
-use Prim.Native.Nat.{_+_, _-_, _≤_}
+use Prim.Native.Nat.{_+_, _-_}
 use native.Mathlib.Omega.{arith}
 use borrow.Author.Tests.{not-true, not-false}
 use lib.ListN.{length}
 use lib.Seq.{length-take-le}
 use Rattle.rules.specs.Files.{view}
 use Rattle.rules.specs.Includes.{insideFile}
-use Rattle.buffers.specs.Put.{Writer}
-use Rattle.buffers.specs.Emits.{Emits}
 use Rattle.buffers.specs.Laws.{put-writer, put-length}
 use Rattle.bundle.specs.Find.{entriesOf}
 use Rattle.includes.specs.Resolve.{Resolving, resolving-start, resolving-full, resolving-end, resolving-refused, resolving-on, came-put, came-inside}

@@ -7,7 +7,6 @@ use Rattle.buffers.proofs.put.Reads as put-reads
 use Rattle.includes.proofs.files.open_file.Reads as open-file-reads
 use Rattle.includes.proofs.files.source.Reads as source-reads
 use Rattle.includes.proofs.put_only.Reads as put-only-reads
-use native.Mathlib.Omega.{arith}
 use Rattle.buffers.specs.Laws.{put-length}
 use Rattle.includes.specs.Resolve.{within-copied, within-include, within-source, handled-copied, handled-source, handled-file}
 

@@ -20,7 +20,7 @@ use Rattle.rules.specs.Laws.Bool.{not-true, true-eqb, eqb-true, false-eq
 use Rattle.rules.specs.Laws.Sheet.{bind-some}
 use Rattle.rules.specs.Calls.{Found, foundEntry, foundAnswer, findFileResult, findFileOf}
 
-some-same : {A : Type 0} {a b : A} → some a ≡ some b → a ≡ b
+pub some-same : {A : Type 0} {a b : A} → some a ≡ some b → a ≡ b
 some-same h = cc
 
 -- b ends in u.

@@ -4,7 +4,6 @@ use Rattle.strings.proofs.escape.Tie as tie
 use Rattle.strings.proofs.escape.Reads as reads
 use Rattle.strings.proofs.escape.Lts as lts
 use Rattle.buffers.proofs.put_byte.Reads as put-byte-reads
-use mathlib.Core.Path.{_≡_, refl, sym, ap, _∙_}
 use Rattle.rules.specs.Reader.{the}
 use Rattle.rules.specs.Strings.{escape}
 use Rattle.buffers.specs.Laws.{put-then, put-writer}

@@ -7,11 +7,10 @@ use Rattle.buffers.proofs.put.Reads as put-reads
 use Rattle.buffers.proofs.put_byte.Reads as put-byte-reads
 use Rattle.scan.proofs.span.Reads as span-reads
 use Rattle.strings.proofs.escape.Reads as escape-reads
-use mathlib.Core.Path.{_≡_, refl, sym, ap, _∙_}
-use Prim.Native.Nat.{ℕ, _≤_, _+_, _-_}
+use mathlib.Core.Path.{_∙_}
+use Prim.Native.Nat.{_-_}
 use native.Mathlib.Omega.{arith}
 use lib.ListN.{length}
-use Rattle.buffers.specs.Put.{Writer}
 use Rattle.buffers.specs.Laws.{put-writer, put-length}
 use Rattle.strings.specs.Laws.{LiteralAt, literal-start, literal-end, literal-quote, literal-last, literal-escape}
 

@@ -5,8 +5,7 @@ use Rattle.strings.proofs.reference.Reads as reads
 use Rattle.strings.proofs.reference.Lts as lts
 use Rattle.buffers.proofs.put.Reads as put-reads
 use Rattle.sheet.proofs.lookup.lookup.Reads as lookup-reads
-use mathlib.Core.Path.{_≡_, refl, sym, ap, _∙_}
-use native.Mathlib.Omega.{arith}
+use mathlib.Core.Path.{refl}
 use Rattle.sheet.specs.Find.{foundText}
 use Rattle.buffers.specs.Laws.{put-length}
 use Rattle.strings.specs.Laws.{text-places, gives-run, reference-text, reference-none}

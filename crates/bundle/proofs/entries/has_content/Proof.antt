@@ -1,4 +1,3 @@
-use borrow.Author.Needs.{needs}
 use Rattle.bundle.proofs.entries.has_content.Statement.{statement}
 use Rattle.bundle.proofs.entries.has_content.Tie as tie
 use Rattle.bundle.proofs.entries.has_content.Reads as reads

@@ -1,4 +1,3 @@
-use borrow.Author.Needs.{needs}
 use Rattle.bundle.proofs.entries.has_folder.Statement.{statement}
 use Rattle.bundle.proofs.entries.has_folder.Tie as tie
 use Rattle.bundle.proofs.entries.has_folder.Reads as reads

@@ -1,4 +1,3 @@
-use borrow.Author.Needs.{needs}
 use Rattle.bundle.proofs.entries.has_name.Statement.{statement}
 use Rattle.bundle.proofs.entries.has_name.Tie as tie
 use Rattle.bundle.proofs.entries.has_name.Reads as reads

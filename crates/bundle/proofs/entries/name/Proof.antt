@@ -6,7 +6,6 @@ use Rattle.bundle.proofs.entries.name.Lts as lts
 use Rattle.bundle.proofs.entries.short_field.Reads as short-field-reads
 use Rattle.bundle.proofs.entries.without_slash.Reads as without-slash-reads
 use borrow.Author.Tests.{not-true, not-false}
-use native.Mathlib.Omega.{arith}
 use Rattle.bundle.specs.Entries.{name-none, name-slash, name-some}
 
 short-field-requires : tie.Need-short-field-requires

@@ -5,7 +5,6 @@ use Rattle.bundle.proofs.entries.short_field.Reads as reads
 use Rattle.bundle.proofs.entries.short_field.Lts as lts
 use Rattle.bundle.proofs.entries.body.Reads as body-reads
 use Rattle.bundle.proofs.entries.wide.Reads as wide-reads
-use native.Mathlib.Omega.{arith}
 use Rattle.bundle.specs.Entries.{short-of, short-end}
 
 returns : tie.Need-returns

@@ -6,8 +6,8 @@ use Rattle.bundle.proofs.near.relate.Lts as lts
 use Rattle.bundle.proofs.near.above.Reads as above-reads
 use Rattle.scan.proofs.same.Reads as same-reads
 use Rattle.bundle.proofs.walk.path_of.Reads as path-of-reads
-use mathlib.Core.Path.{_≡_, _∙_}
-use Rattle.bundle.specs.Check.{start-length}
+use mathlib.Core.Path.{_∙_}
+use Rattle.scan.specs.Paths.{start-length}
 use Rattle.bundle.specs.Find.{near-of}
 
 path-of-requires : tie.Need-path-of-requires

@@ -7,7 +7,6 @@ use Rattle.bundle.proofs.order.clashes.Reads as clashes-reads
 use Rattle.bundle.proofs.order.ordered.Reads as ordered-reads
 use Rattle.scan.proofs.paths.is_path.Reads as is-path-reads
 use borrow.Author.Tests.{not-true, not-false}
-use native.Mathlib.Omega.{arith}
 use Rattle.bundle.specs.Order.{keeps-path, keeps-order, keeps-clash, order-inside}
 
 is-path-requires : tie.Need-is-path-requires

@@ -7,10 +7,10 @@ use Rattle.bundle.proofs.order.agree.Reads as agree-reads
 use Rattle.bundle.proofs.order.keeps.Reads as keeps-reads
 use Rattle.bundle.proofs.order.mark.Reads as mark-reads
 use Rattle.bundle.proofs.walk.start.Reads as start-reads
-use mathlib.Core.Path.{_≡_, sym, _∙_}
 use borrow.Author.Tests.{not-true, not-false}
 use native.Mathlib.Omega.{arith}
-use Rattle.bundle.specs.Check.{start-length, follow-no, follow-yes, keeps-inside}
+use Rattle.scan.specs.Paths.{start-length}
+use Rattle.bundle.specs.Check.{follow-no, follow-yes, keeps-inside}
 
 array-share-prefix-x : tie.Need-array-share-prefix-x
 array-share-prefix-x c = search needs

@@ -8,7 +8,7 @@ use Rattle.scan.proofs.paths.join.Reads as join-reads
 use mathlib.Core.Path.{_≡_, sym}
 use native.Mathlib.Omega.{arith}
 use lib.Seq.{length-take-le}
-use Rattle.bundle.specs.Check.{start-length}
+use Rattle.scan.specs.Paths.{start-length}
 use Rattle.definition_imports.specs.Import.{path-over, path-joined}
 
 returns : tie.Need-returns

@@ -1,4 +1,3 @@
-use borrow.Author.Needs.{needs}
 use Rattle.includes.proofs.ahead.nothing.Statement.{statement}
 use Rattle.includes.proofs.ahead.nothing.Tie as tie
 use Rattle.includes.proofs.ahead.nothing.Reads as reads

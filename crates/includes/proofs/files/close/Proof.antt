@@ -4,7 +4,6 @@ use Rattle.includes.proofs.files.close.Tie as tie
 use Rattle.includes.proofs.files.close.Reads as reads
 use Rattle.includes.proofs.files.close.Lts as lts
 use Rattle.buffers.proofs.put.Reads as put-reads
-use mathlib.Core.Path.{_≡_, sym, ap, _∙_}
 use Rattle.includes.specs.Files.{same-put, close-empty, close-other, close-newline}
 
 slice-aggregate-put : tie.Need-slice-aggregate-put

@@ -8,10 +8,9 @@ use Rattle.includes.proofs.files.refused.Reads as refused-reads
 use Rattle.scan.proofs.is_ascii.Reads as is-ascii-reads
 use Rattle.scan.proofs.paths.join.Reads as join-reads
 use Rattle.scan.proofs.paths.parent.Reads as parent-reads
-use mathlib.Core.Path.{_≡_, sym, ap, _∙_}
-use native.Mathlib.Omega.{arith}
+use mathlib.Core.Path.{sym, _∙_}
 use borrow.Author.Tests.{not-true, not-false}
-use Rattle.bundle.specs.Check.{start-length}
+use Rattle.scan.specs.Paths.{start-length}
 use Rattle.bundle.specs.Open.{text-inside}
 use Rattle.includes.specs.Files.{same-file, file-long, file-refused, file-seven, file-six, file-open, fetched-no, fetched, parent-of}
 

@@ -6,10 +6,10 @@ use Rattle.includes.proofs.files.open_source.Lts as lts
 use Rattle.bundle.proofs.open_text.Reads as open-text-reads
 use Rattle.bundle.proofs.project_root.Reads as project-root-reads
 use Rattle.scan.proofs.paths.join.Reads as join-reads
-use mathlib.Core.Path.{_≡_, sym, ap, _∙_}
+use mathlib.Core.Path.{sym}
 use borrow.Author.Tests.{not-true, not-false}
 use lib.Seq.{length-take-le}
-use Rattle.bundle.specs.Check.{start-length}
+use Rattle.scan.specs.Paths.{start-length}
 use Rattle.includes.specs.Files.{source-long, source-path}
 
 project-root-requires : tie.Need-project-root-requires

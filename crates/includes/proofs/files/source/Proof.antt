@@ -5,8 +5,6 @@ use Rattle.includes.proofs.files.source.Reads as reads
 use Rattle.includes.proofs.files.source.Lts as lts
 use Rattle.includes.proofs.files.block.Reads as block-reads
 use Rattle.includes.proofs.files.open_source.Reads as open-source-reads
-use mathlib.Core.Path.{_≡_, sym, ap, _∙_}
-use native.Mathlib.Omega.{arith}
 use Rattle.bundle.specs.Open.{text-inside}
 use Rattle.includes.specs.Files.{source-refused, source-put}
 

@@ -3,7 +3,6 @@ use Rattle.includes.proofs.marks.line_start.Statement.{statement}
 use Rattle.includes.proofs.marks.line_start.Tie as tie
 use Rattle.includes.proofs.marks.line_start.Reads as reads
 use Rattle.includes.proofs.marks.line_start.Lts as lts
-use Prim.Native.Nat.{_-_}
 use Rattle.includes.specs.Marks.{Back, back-start, back-from, back-newline, back-on}
 
 abbrev Inv-loop : tie.InvT-loop

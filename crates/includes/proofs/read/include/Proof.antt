@@ -7,7 +7,7 @@ use Rattle.includes.proofs.ahead.quote.Reads as quote-reads
 use Rattle.includes.proofs.read.copied.Reads as copied-reads
 use Rattle.includes.proofs.read.paired.Reads as paired-reads
 use Rattle.scan.proofs.paths.trim.Reads as trim-reads
-use mathlib.Core.Path.{_≡_, sym, ap, _∙_}
+use mathlib.Core.Path.{ap, _∙_}
 use borrow.Author.Tests.{not-true, not-false}
 use Rattle.includes.specs.Read.{same-read, copiedRead, include-none, include-some}
 

@@ -9,7 +9,7 @@ use Rattle.includes.proofs.read.paired.Reads as paired-reads
 use Rattle.includes.proofs.read.source.Reads as source-reads
 use Rattle.scan.proofs.at.Reads as at-reads
 use Rattle.scan.proofs.span.Reads as span-reads
-use mathlib.Core.Path.{_≡_, sym, ap, _∙_}
+use mathlib.Core.Path.{ap, _∙_}
 use borrow.Author.Tests.{not-true, not-false}
 use Rattle.scan.specs.Laws.{sees-the}
 use Rattle.includes.specs.Read.{same-read, copiedRead, source-plain, source-none, has-path}
