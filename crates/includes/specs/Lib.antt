@@ -1,5 +1,1 @@
-pub mod Ahead
-pub mod Marks
-pub mod Read
-pub mod Files
 pub mod Resolve

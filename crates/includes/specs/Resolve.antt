@@ -17,23 +17,23 @@ use Rattle.rules.specs.Laws.Limit.{written-unrefused}
 use Rattle.rules.specs.Laws.Enough.{run-at}
 use Rattle.buffers.specs.Put.{Put}
 use Rattle.buffers.specs.Laws.{put-length}
-use Rattle.includes.specs.declared.ahead.Known.{Known}
-use Rattle.includes.specs.declared.marks.Mark.{Mark}
-use Rattle.includes.specs.declared.marks.Found.{Found}
-use Rattle.includes.specs.declared.marks.Found.the-variants.{Nothing}
-use Rattle.includes.specs.declared.files.File.{File}
-use Rattle.includes.specs.declared.files.Written.{Written}
+use Rattle.marks.specs.declared.ahead.Known.{Known}
+use Rattle.marks.specs.declared.Mark.{Mark}
+use Rattle.marks.specs.declared.Found.{Found}
+use Rattle.marks.specs.declared.Found.the-variants.{Nothing}
+use Rattle.marked_files.specs.declared.File.{File}
+use Rattle.marked_files.specs.declared.Written.{Written}
 use Rattle.includes.specs.declared.Outcome.{Outcome}
 use Rattle.includes.specs.declared.Resolved.{Resolved}
-use Rattle.includes.specs.declared.read.Reading.{Reading}
-use Rattle.includes.specs.declared.read.Reading.the-variants.{Copied, Include as Included, Source as Shown}
-use Rattle.includes.specs.declared.read.Read.{Read}
+use Rattle.marks.specs.declared.read.Reading.{Reading}
+use Rattle.marks.specs.declared.read.Reading.the-variants.{Copied, Include as Included, Source as Shown}
+use Rattle.marks.specs.declared.read.Read.{Read}
 use Rattle.buffers.specs.Emits.{Emits, Going, going-start, going-same, going-on, going-no, going-end, emits-put, emits-fail}
 use Rattle.scan.specs.Sets.{part}
-use Rattle.includes.specs.Ahead.{KnowsAll}
-use Rattle.includes.specs.Marks.{NextMark, markText, mark-some, stretch, plain}
-use Rattle.includes.specs.Read.{emitOf, Within, Reads}
-use Rattle.includes.specs.Files.{refusedFile, OpensFile, EndsLine, emits-line}
+use Rattle.marks.specs.Ahead.{KnowsAll}
+use Rattle.marks.specs.Marks.{NextMark, markText, mark-some, stretch, plain}
+use Rattle.marks.specs.Read.{emitOf, Within, Reads}
+use Rattle.marked_files.specs.Files.{refusedFile, OpensFile, EndsLine, emits-line}
 
 -- What writing a run's text came to; and is each of its steps whole.
 pub record Resolves (full room : ℕ) (t : Trace (List ℕ)) (b : List ℕ) (p : ℕ) (c : List ℕ) (fine : Bool) (number q : ℕ) (w : Bool) : Type 0 where

@@ -12,17 +12,11 @@ ghost use Rattle.buffers.specs.Put.{Writer};
 ghost use Rattle.rules.specs.Laws.Bool.{isSome};
 ghost use Rattle.bundle.specs.Find.{entriesOf};
 ghost use Rattle.includes.specs.Resolve.{putOnly, Handles, refusedText, finishedText, Resolves};
-ghost use Rattle.includes.specs.Read.{Within};
-
-mod ahead;
-mod files;
-mod marks;
-mod read;
-
-use files::File;
-use files::Written;
+ghost use Rattle.marks.specs.Read.{Within};
+use marked_files::File;
+use marked_files::Written;
 use marks::Found;
-use read::Reading;
+use marks::read::Reading;
 
 // What resolving a text came to: has all been written; if not, the refusal's number; where the writer goes on; and, if all has been
 // written, whether each mark of the text itself is whole (section 6).
@@ -43,7 +37,7 @@ pub struct Outcome {
 fn put_only(w: Written) -> Outcome
     ensures { λ r. ⌜ r ≡ putOnly w ⌝ }
 {
-    let none = files::refused(0, [0u8; 255]);
+    let none = marked_files::refused(0, [0u8; 255]);
     Outcome {
         written: w,
         file: none,
@@ -82,10 +76,10 @@ fn put_or_open(
         } => {
             let path = &text[from..to];
             let lang = &text[start..end];
-            put_only(files::source(b, folder, path, lang, out, room, p, full))
+            put_only(marked_files::sources::put_source(b, folder, path, lang, out, room, p, full))
         }
         Reading::Include { from, to } => {
-            let f = files::open_file(b, folder, &text[from..to], levels);
+            let f = marked_files::open_file(b, folder, &text[from..to], levels);
             Outcome {
                 written: Written {
                     ok: f.ok,
@@ -139,7 +133,7 @@ pub fn resolve(
     let mut done: usize = 0;
     let mut q = p;
     let mut whole = true;
-    let mut known = ahead::nothing();
+    let mut known = marks::ahead::nothing();
     loop {
         let next = marks::next_mark(text, done);
         let at = next.at;
@@ -151,7 +145,7 @@ pub fn resolve(
         let Found::Mark(mark) = found else {
             return finished(q, whole);
         };
-        let r = read::read_mark(text, done, at, mark, known);
+        let r = marks::read::read_mark(text, done, at, mark, known);
         let what = r.what;
         let o = put_or_open(b, folder, text, what, out, room, q, full, levels);
         let mut w = o.written;
@@ -164,7 +158,7 @@ pub fn resolve(
             let its_folder = &bytes[..parent];
             let its_text = &b[start..end];
             let i = resolve(b, its_folder, its_text, out, room, q, full, levels - 1);
-            w = files::newline(i.ok, i.number, out, room, i.next, full);
+            w = marked_files::put_newline(i.ok, i.number, out, room, i.next, full);
         }
         if !w.ok {
             return refused(w.number, w.next);

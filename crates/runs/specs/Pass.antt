@@ -23,7 +23,7 @@ use Rattle.rules.specs.Laws.Bool.{true-some}
 use Rattle.rules.specs.Laws.Middle.{middle-plain}
 use Rattle.bundle.specs.Find.{entriesOf, entries-some}
 use Rattle.includes.specs.Resolve.{Resolves}
-use Rattle.includes.specs.Files.{ends-last}
+use Rattle.scan.specs.Laws.{ends-last}
 use Rattle.expansion.specs.declared.Expanded.{Expanded as Ran}
 use Rattle.binding.specs.Use.{Keeps}
 use Rattle.expansion.specs.Run.{Expands}

@@ -13,6 +13,7 @@ use lib.ListN.{length, take, drop, getD, drop-of-length-le, length-append, lengt
 use lib.Seq.{drop-cons, drop-drop, take-add, take-append-seam}
 use borrow.Author.Tests.{lt-ltb, le-ltb, eq-eqb, ne-eqb, eqb-true, eqb-false, not-true as negated-true, not-false as negated-false}
 use Rattle.rules.specs.Reader.{Reader, the, but, all, empty, span, sees, skip, prefix, same, mark}
+use Rattle.rules.specs.Run.{endsInNewline}
 use Rattle.rules.specs.Laws.Bool.{and-l, and-r, and-i, not-true}
 use Rattle.scan.specs.Sets.{byteIs, part, Spans, Sees, Starts, Stands, Skips}
 
@@ -63,6 +64,13 @@ pub not-empty : (t : List ℕ) → (length t ≡ 0 → ⊥) → empty t ≡ fals
 unfolding empty
 not-empty [] h = absurd (h refl)
 not-empty (x ∷ xs) h = refl
+
+-- The last byte of a text.
+pub ends-last : (c : List ℕ) → 0 < length c → endsInNewline c ≡ eqb (getD c (length c - 1) 0) 10
+unfolding endsInNewline
+ends-last [] h = absurd (omega arith)
+ends-last (x ∷ []) h = refl
+ends-last (x ∷ y ∷ ys) h = let z : length (x ∷ y ∷ ys) - 1 ≡ suc (length (y ∷ ys) - 1) = omega arith in rw z (ends-last (y ∷ ys) (omega arith))
 
 pub skip-at : (t : List ℕ) (i : ℕ) → i < length t → skip (drop i t) .1 ≡ drop (i + 1) t
 unfolding skip

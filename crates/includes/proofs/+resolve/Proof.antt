@@ -6,12 +6,12 @@ use Rattle.includes.proofs.resolve.Reads as resolve
 use Rattle.includes.proofs.resolve.Kinds as resolve-kinds
 use Rattle.includes.proofs.+resolve.Lts-resolve as resolve-lts
 use Rattle.buffers.proofs.put.Reads as put-reads
-use Rattle.includes.proofs.ahead.nothing.Reads as nothing-reads
-use Rattle.includes.proofs.files.newline.Reads as newline-reads
+use Rattle.marks.proofs.ahead.nothing.Reads as nothing-reads
+use Rattle.marked_files.proofs.put_newline.Reads as put-newline-reads
 use Rattle.includes.proofs.finished.Reads as finished-reads
-use Rattle.includes.proofs.marks.next_mark.Reads as next-mark-reads
+use Rattle.marks.proofs.next_mark.Reads as next-mark-reads
 use Rattle.includes.proofs.put_or_open.Reads as put-or-open-reads
-use Rattle.includes.proofs.read.read_mark.Reads as read-mark-reads
+use Rattle.marks.proofs.read.read_mark.Reads as read-mark-reads
 use Rattle.includes.proofs.refused.Reads as refused-reads
 use Rattle.includes.proofs.+resolve.{statement}
 use Rattle.includes.proofs.+resolve.Tie.{close}
@@ -27,7 +27,7 @@ use Rattle.rules.specs.Includes.{insideFile}
 use Rattle.buffers.specs.Laws.{put-writer, put-length}
 use Rattle.bundle.specs.Find.{entriesOf}
 use Rattle.includes.specs.Resolve.{Resolving, resolving-start, resolving-full, resolving-end, resolving-refused, resolving-on, came-put, came-inside}
-use Rattle.includes.specs.Marks.{mark-some}
+use Rattle.marks.specs.Marks.{mark-some}
 
 abbrev μ-resolve : Measures 4 resolve-kinds.ps ℕ
 μ-resolve κs a = a .1 .1 .1 .1 .1 .1 .1 .0
@@ -63,8 +63,8 @@ resolve-nothing-requires : (t : ℕ) → resolve-lts.Need-nothing-requires (
   put-or-open-reads.Learnt,
   resolve-below t,
   resolve.Post,
-  newline-reads.Asked,
-  newline-reads.Learnt,
+  put-newline-reads.Asked,
+  put-newline-reads.Learnt,
 ) (resolve-at t) resolve.Post resolve-Inv-loop resolve-μ-loop
 resolve-nothing-requires t c κs = search needs
 
@@ -85,8 +85,8 @@ resolve-loop-holds : (t : ℕ) → resolve-lts.Need-loop-holds (
   put-or-open-reads.Learnt,
   resolve-below t,
   resolve.Post,
-  newline-reads.Asked,
-  newline-reads.Learnt,
+  put-newline-reads.Asked,
+  put-newline-reads.Learnt,
 ) (resolve-at t) resolve.Post resolve-Inv-loop resolve-μ-loop
 resolve-loop-holds t c = resolving-start _ _ _ _ (c .before .before .before .before .before .pre .1 .2) (c .nothing .ensures _)
 
@@ -107,8 +107,8 @@ resolve-next-mark-requires : (t : ℕ) → resolve-lts.Need-next-mark-requires (
   put-or-open-reads.Learnt,
   resolve-below t,
   resolve.Post,
-  newline-reads.Asked,
-  newline-reads.Learnt,
+  put-newline-reads.Asked,
+  put-newline-reads.Learnt,
 ) (resolve-at t) resolve.Post resolve-Inv-loop resolve-μ-loop
 resolve-next-mark-requires t c κs = c .loop .inv .inside
 
@@ -129,8 +129,8 @@ resolve-sub-put : (t : ℕ) → resolve-lts.Need-sub-put (
   put-or-open-reads.Learnt,
   resolve-below t,
   resolve.Post,
-  newline-reads.Asked,
-  newline-reads.Learnt,
+  put-newline-reads.Asked,
+  put-newline-reads.Learnt,
 ) (resolve-at t) resolve.Post resolve-Inv-loop resolve-μ-loop
 resolve-sub-put t c = search needs
 
@@ -151,8 +151,8 @@ resolve-part-put-start : (t : ℕ) → resolve-lts.Need-part-put-start (
   put-or-open-reads.Learnt,
   resolve-below t,
   resolve.Post,
-  newline-reads.Asked,
-  newline-reads.Learnt,
+  put-newline-reads.Asked,
+  put-newline-reads.Learnt,
 ) (resolve-at t) resolve.Post resolve-Inv-loop resolve-μ-loop
 resolve-part-put-start t c = search needs
 
@@ -173,8 +173,8 @@ resolve-part-put-end : (t : ℕ) → resolve-lts.Need-part-put-end (
   put-or-open-reads.Learnt,
   resolve-below t,
   resolve.Post,
-  newline-reads.Asked,
-  newline-reads.Learnt,
+  put-newline-reads.Asked,
+  put-newline-reads.Learnt,
 ) (resolve-at t) resolve.Post resolve-Inv-loop resolve-μ-loop
 resolve-part-put-end t c = search needs
 
@@ -195,8 +195,8 @@ resolve-put-requires : (t : ℕ) → resolve-lts.Need-put-requires (
   put-or-open-reads.Learnt,
   resolve-below t,
   resolve.Post,
-  newline-reads.Asked,
-  newline-reads.Learnt,
+  put-newline-reads.Asked,
+  put-newline-reads.Learnt,
 ) (resolve-at t) resolve.Post resolve-Inv-loop resolve-μ-loop
 resolve-put-requires t c κs = record { place = omega (arith, c .before .before .before .loop .inv .place); fits = c .before .before .before .before .before .before .before .before .before .pre .1 .1 .fits }
 
@@ -217,8 +217,8 @@ resolve-refused-requires : (t : ℕ) → resolve-lts.Need-refused-requires (
   put-or-open-reads.Learnt,
   resolve-below t,
   resolve.Post,
-  newline-reads.Asked,
-  newline-reads.Learnt,
+  put-newline-reads.Asked,
+  put-newline-reads.Learnt,
 ) (resolve-at t) resolve.Post resolve-Inv-loop resolve-μ-loop
 resolve-refused-requires t c κs = search needs
 
@@ -239,8 +239,8 @@ resolve-same-length : (t : ℕ) → resolve-lts.Need-same-length (
   put-or-open-reads.Learnt,
   resolve-below t,
   resolve.Post,
-  newline-reads.Asked,
-  newline-reads.Learnt,
+  put-newline-reads.Asked,
+  put-newline-reads.Learnt,
 ) (resolve-at t) resolve.Post resolve-Inv-loop resolve-μ-loop
 resolve-same-length t c = put-length (c .before .before .before .before .put .ensures) ∙ c .before .before .before .before .before .before .before .before .loop .inv .size
 
@@ -261,8 +261,8 @@ resolve-returns : (t : ℕ) → resolve-lts.Need-returns (
   put-or-open-reads.Learnt,
   resolve-below t,
   resolve.Post,
-  newline-reads.Asked,
-  newline-reads.Learnt,
+  put-newline-reads.Asked,
+  put-newline-reads.Learnt,
 ) (resolve-at t) resolve.Post resolve-Inv-loop resolve-μ-loop
 resolve-returns t c = rw (c .refused .ensures) (resolving-full _ _ _ _ (c .before .before .before .before .before .before .before .before .loop .inv) (c .before .before .before .before .before .before .before .next-mark .ensures) (c .before .before .before .before .put .ensures) (search needs))
 
@@ -283,8 +283,8 @@ resolve-enum-known-found : (t : ℕ) → resolve-lts.Need-enum-known-found (
   put-or-open-reads.Learnt,
   resolve-below t,
   resolve.Post,
-  newline-reads.Asked,
-  newline-reads.Learnt,
+  put-newline-reads.Asked,
+  put-newline-reads.Learnt,
 ) (resolve-at t) resolve.Post resolve-Inv-loop resolve-μ-loop
 resolve-enum-known-found t c = search needs
 
@@ -305,8 +305,8 @@ resolve-enum-told : (t : ℕ) → resolve-lts.Need-enum-told (
   put-or-open-reads.Learnt,
   resolve-below t,
   resolve.Post,
-  newline-reads.Asked,
-  newline-reads.Learnt,
+  put-newline-reads.Asked,
+  put-newline-reads.Learnt,
 ) (resolve-at t) resolve.Post resolve-Inv-loop resolve-μ-loop
 resolve-enum-told t c = search needs
 
@@ -327,8 +327,8 @@ resolve-finished-requires : (t : ℕ) → resolve-lts.Need-finished-requires (
   put-or-open-reads.Learnt,
   resolve-below t,
   resolve.Post,
-  newline-reads.Asked,
-  newline-reads.Learnt,
+  put-newline-reads.Asked,
+  put-newline-reads.Learnt,
 ) (resolve-at t) resolve.Post resolve-Inv-loop resolve-μ-loop
 resolve-finished-requires t c κs = search needs
 
@@ -349,8 +349,8 @@ resolve-same-length-2 : (t : ℕ) → resolve-lts.Need-same-length-2 (
   put-or-open-reads.Learnt,
   resolve-below t,
   resolve.Post,
-  newline-reads.Asked,
-  newline-reads.Learnt,
+  put-newline-reads.Asked,
+  put-newline-reads.Learnt,
 ) (resolve-at t) resolve.Post resolve-Inv-loop resolve-μ-loop
 resolve-same-length-2 t c = put-length (c .before .before .before .before .before .before .put .ensures) ∙ c .before .before .before .before .before .before .before .before .before .before .loop .inv .size
 
@@ -371,8 +371,8 @@ resolve-returns-2 : (t : ℕ) → resolve-lts.Need-returns-2 (
   put-or-open-reads.Learnt,
   resolve-below t,
   resolve.Post,
-  newline-reads.Asked,
-  newline-reads.Learnt,
+  put-newline-reads.Asked,
+  put-newline-reads.Learnt,
 ) (resolve-at t) resolve.Post resolve-Inv-loop resolve-μ-loop
 resolve-returns-2 t c = rw (c .finished .ensures) (resolving-end _ _ _ _ (c .before .before .before .before .before .before .before .before .before .before .loop .inv) (c .before .before .before .before .before .before .before .before .before .next-mark .ensures) (c .before .before .before .before .before .before .put .ensures) (search needs) (c .before .enum-told .given .1))
 
@@ -393,8 +393,8 @@ resolve-read-mark-requires : (t : ℕ) → resolve-lts.Need-read-mark-requires (
   put-or-open-reads.Learnt,
   resolve-below t,
   resolve.Post,
-  newline-reads.Asked,
-  newline-reads.Learnt,
+  put-newline-reads.Asked,
+  put-newline-reads.Learnt,
 ) (resolve-at t) resolve.Post resolve-Inv-loop resolve-μ-loop
 resolve-read-mark-requires t c κs = (c .before .before .before .before .before .before .before .before .before .next-mark .ensures .before .on, c .before .before .before .before .before .before .before .before .before .next-mark .ensures .before .inside, sym (c .before .found .given .1) ∙ c .before .before .before .before .before .before .before .before .before .next-mark .ensures .there, c .before .before .before .before .before .before .before .before .before .before .loop .inv .knows)
 
@@ -415,8 +415,8 @@ resolve-put-or-open-requires : (t : ℕ) → resolve-lts.Need-put-or-open-requir
   put-or-open-reads.Learnt,
   resolve-below t,
   resolve.Post,
-  newline-reads.Asked,
-  newline-reads.Learnt,
+  put-newline-reads.Asked,
+  put-newline-reads.Learnt,
 ) (resolve-at t) resolve.Post resolve-Inv-loop resolve-μ-loop
 resolve-put-or-open-requires t c κs = (c .before .before .before .before .before .before .before .before .before .before .before .before .before .before .before .before .before .before .pre .1 .0, put-writer (c .before .before .before .before .before .before .before .before .put .ensures) (record { place = omega (arith, c .before .before .before .before .before .before .before .before .before .before .before .before .loop .inv .place); fits = c .before .before .before .before .before .before .before .before .before .before .before .before .before .before .before .before .before .before .pre .1 .1 .fits }), search needs, omega (arith, put-length (c .before .before .before .before .before .before .before .before .put .ensures), c .before .before .before .before .before .before .before .before .before .before .before .before .loop .inv .size, c .before .before .before .before .before .before .before .before .before .before .before .before .before .before .before .before .before .before .pre .1 .3), c .before .read-mark .ensures .parts)
 
@@ -437,8 +437,8 @@ resolve-array-share-prefix-bytes : (t : ℕ) → resolve-lts.Need-array-share-pr
   put-or-open-reads.Learnt,
   resolve-below t,
   resolve.Post,
-  newline-reads.Asked,
-  newline-reads.Learnt,
+  put-newline-reads.Asked,
+  put-newline-reads.Learnt,
 ) (resolve-at t) resolve.Post resolve-Inv-loop resolve-μ-loop
 resolve-array-share-prefix-bytes t c = c .before .before .before .before .before .before .put-or-open .ensures .short
 
@@ -459,8 +459,8 @@ resolve-slice-aggregate-its-folder : (t : ℕ) → resolve-lts.Need-slice-aggreg
   put-or-open-reads.Learnt,
   resolve-below t,
   resolve.Post,
-  newline-reads.Asked,
-  newline-reads.Learnt,
+  put-newline-reads.Asked,
+  put-newline-reads.Learnt,
 ) (resolve-at t) resolve.Post resolve-Inv-loop resolve-μ-loop
 resolve-slice-aggregate-its-folder t c = sym (length-take-le _ _ (c .before .before .before .before .before .before .before .put-or-open .ensures .short))
 
@@ -481,8 +481,8 @@ resolve-sub-its-text : (t : ℕ) → resolve-lts.Need-sub-its-text (
   put-or-open-reads.Learnt,
   resolve-below t,
   resolve.Post,
-  newline-reads.Asked,
-  newline-reads.Learnt,
+  put-newline-reads.Asked,
+  put-newline-reads.Learnt,
 ) (resolve-at t) resolve.Post resolve-Inv-loop resolve-μ-loop
 resolve-sub-its-text t c = search needs
 
@@ -503,8 +503,8 @@ resolve-part-its-text-start : (t : ℕ) → resolve-lts.Need-part-its-text-start
   put-or-open-reads.Learnt,
   resolve-below t,
   resolve.Post,
-  newline-reads.Asked,
-  newline-reads.Learnt,
+  put-newline-reads.Asked,
+  put-newline-reads.Learnt,
 ) (resolve-at t) resolve.Post resolve-Inv-loop resolve-μ-loop
 resolve-part-its-text-start t c = search needs
 
@@ -525,8 +525,8 @@ resolve-part-its-text-end : (t : ℕ) → resolve-lts.Need-part-its-text-end (
   put-or-open-reads.Learnt,
   resolve-below t,
   resolve.Post,
-  newline-reads.Asked,
-  newline-reads.Learnt,
+  put-newline-reads.Asked,
+  put-newline-reads.Learnt,
 ) (resolve-at t) resolve.Post resolve-Inv-loop resolve-μ-loop
 resolve-part-its-text-end t c = search needs
 
@@ -547,8 +547,8 @@ resolve-sub-resolve : (t : ℕ) → resolve-lts.Need-sub-resolve (
   put-or-open-reads.Learnt,
   resolve-below t,
   resolve.Post,
-  newline-reads.Asked,
-  newline-reads.Learnt,
+  put-newline-reads.Asked,
+  put-newline-reads.Learnt,
 ) (resolve-at t) resolve.Post resolve-Inv-loop resolve-μ-loop
 resolve-sub-resolve t c = let h = c .before .before .before .before .before .before .before .before .before .put-or-open .ensures .left (c .before .before .before .before .if2 .taken) in search needs
 
@@ -569,14 +569,14 @@ resolve-resolve-requires : (t : ℕ) → resolve-lts.Need-resolve-requires (
   put-or-open-reads.Learnt,
   resolve-below t,
   resolve.Post,
-  newline-reads.Asked,
-  newline-reads.Learnt,
+  put-newline-reads.Asked,
+  put-newline-reads.Learnt,
 ) (resolve-at t) resolve.Post resolve-Inv-loop resolve-μ-loop
 resolve-resolve-requires t c κs =
     let h = c .before .before .before .before .before .before .before .before .before .put-or-open .ensures .left (c .before .before .before .before .if2 .taken) in
     (omega (arith, c .before .before .before .before .before .before .before .before .before .before .before .before .before .before .before .before .before .before .before .before .before .before .before .before .before .before .before .before .pre .0, h), (c .before .before .before .before .before .before .before .before .before .before .before .before .before .before .before .before .before .before .before .before .before .before .before .before .before .before .before .before .pre .1 .0, put-writer (c .before .before .before .before .before .before .before .before .before .before .before .before .before .before .before .before .before .before .put .ensures) (record { place = omega (arith, c .before .before .before .before .before .before .before .before .before .before .before .before .before .before .before .before .before .before .before .before .before .before .loop .inv .place); fits = c .before .before .before .before .before .before .before .before .before .before .before .before .before .before .before .before .before .before .before .before .before .before .before .before .before .before .before .before .pre .1 .1 .fits }), omega arith, omega (arith, c .before .before .before .before .before .before .before .before .before .put-or-open .ensures .size, put-length (c .before .before .before .before .before .before .before .before .before .before .before .before .before .before .before .before .before .before .put .ensures), c .before .before .before .before .before .before .before .before .before .before .before .before .before .before .before .before .before .before .before .before .before .before .loop .inv .size, c .before .before .before .before .before .before .before .before .before .before .before .before .before .before .before .before .before .before .before .before .before .before .before .before .before .before .before .before .pre .1 .3)))
 
-resolve-newline-requires : (t : ℕ) → resolve-lts.Need-newline-requires (
+resolve-put-newline-requires : (t : ℕ) → resolve-lts.Need-put-newline-requires (
   nothing-reads.Asked,
   nothing-reads.Learnt,
   next-mark-reads.Asked,
@@ -593,10 +593,10 @@ resolve-newline-requires : (t : ℕ) → resolve-lts.Need-newline-requires (
   put-or-open-reads.Learnt,
   resolve-below t,
   resolve.Post,
-  newline-reads.Asked,
-  newline-reads.Learnt,
+  put-newline-reads.Asked,
+  put-newline-reads.Learnt,
 ) (resolve-at t) resolve.Post resolve-Inv-loop resolve-μ-loop
-resolve-newline-requires t c κs = λ z. record { place = omega (arith, c .before .before .before .resolve .ensures .emits .goes z .fits); fits = c .before .before .before .before .before .before .before .before .before .before .before .before .before .before .before .before .before .before .before .before .before .before .before .before .before .before .before .before .before .before .before .before .pre .1 .1 .fits }
+resolve-put-newline-requires t c κs = λ z. record { place = omega (arith, c .before .before .before .resolve .ensures .emits .goes z .fits); fits = c .before .before .before .before .before .before .before .before .before .before .before .before .before .before .before .before .before .before .before .before .before .before .before .before .before .before .before .before .before .before .before .before .pre .1 .1 .fits }
 
 resolve-refused-requires-2 : (t : ℕ) → resolve-lts.Need-refused-requires-2 (
   nothing-reads.Asked,
@@ -615,8 +615,8 @@ resolve-refused-requires-2 : (t : ℕ) → resolve-lts.Need-refused-requires-2 (
   put-or-open-reads.Learnt,
   resolve-below t,
   resolve.Post,
-  newline-reads.Asked,
-  newline-reads.Learnt,
+  put-newline-reads.Asked,
+  put-newline-reads.Learnt,
 ) (resolve-at t) resolve.Post resolve-Inv-loop resolve-μ-loop
 resolve-refused-requires-2 t c κs = search needs
 
@@ -637,8 +637,8 @@ resolve-same-length-3 : (t : ℕ) → resolve-lts.Need-same-length-3 (
   put-or-open-reads.Learnt,
   resolve-below t,
   resolve.Post,
-  newline-reads.Asked,
-  newline-reads.Learnt,
+  put-newline-reads.Asked,
+  put-newline-reads.Learnt,
 ) (resolve-at t) resolve.Post resolve-Inv-loop resolve-μ-loop
 resolve-same-length-3 t c = ⊎-elim (λ w. ap length (w .12) ∙ w .9 .ensures .size ∙ w .5 .ensures .emits .size) (λ w. ap length (w .1)) (c .before .before .before .if2 .came) ∙ c .before .before .before .before .before .before .before .before .put-or-open .ensures .size ∙ put-length (c .before .before .before .before .before .before .before .before .before .before .before .before .before .before .before .before .before .put .ensures) ∙ c .before .before .before .before .before .before .before .before .before .before .before .before .before .before .before .before .before .before .before .before .before .loop .inv .size
 
@@ -659,8 +659,8 @@ resolve-returns-3 : (t : ℕ) → resolve-lts.Need-returns-3 (
   put-or-open-reads.Learnt,
   resolve-below t,
   resolve.Post,
-  newline-reads.Asked,
-  newline-reads.Learnt,
+  put-newline-reads.Asked,
+  put-newline-reads.Learnt,
 ) (resolve-at t) resolve.Post resolve-Inv-loop resolve-μ-loop
 resolve-returns-3 t c = rw (c .refused2 .ensures) (resolving-refused _ _ _ _ (c .before .before .before .before .before .before .before .before .before .before .before .before .before .before .before .before .before .before .before .before .before .loop .inv) (c .before .before .before .before .before .before .before .before .before .before .before .before .before .before .before .before .before .before .before .before .next-mark .ensures) (c .before .before .before .before .before .before .before .before .before .before .before .before .before .before .before .before .before .put .ensures) (search needs) (c .before .before .before .before .before .before .before .before .before .before .before .before .found .given .0 .0) (c .before .before .before .before .before .before .before .before .before .before .read-mark .ensures) {fine = c .before .before .before .if2 .w .ok} {u = c .before .before .before .if2 .w .next} (⊎-elim (λ w. came-inside (c .before .before .before .before .before .before .before .before .put-or-open .ensures) (omega (arith, c .before .before .before .before .before .before .before .before .before .before .before .before .before .before .if1 .left)) (w .0 .taken) (w .5 .ensures) (w .9 .ensures) (w .12) (w .13)) (λ w. came-put (c .before .before .before .before .before .before .before .before .put-or-open .ensures) (w .0 .left) (w .1) (w .2)) (c .before .before .before .if2 .came)) (not-true _ (c .before .if3 .taken)))
 
@@ -681,8 +681,8 @@ resolve-loop-less : (t : ℕ) → resolve-lts.Need-loop-less (
   put-or-open-reads.Learnt,
   resolve-below t,
   resolve.Post,
-  newline-reads.Asked,
-  newline-reads.Learnt,
+  put-newline-reads.Asked,
+  put-newline-reads.Learnt,
 ) (resolve-at t) resolve.Post resolve-Inv-loop resolve-μ-loop
 resolve-loop-less t c =
     let n = c .before .before .before .before .before .before .before .before .before .before .before .before .before .before .before .before .before .before .before .before .before .next-mark .ensures .before .on in
@@ -707,8 +707,8 @@ resolve-loop-again : (t : ℕ) → resolve-lts.Need-loop-again (
   put-or-open-reads.Learnt,
   resolve-below t,
   resolve.Post,
-  newline-reads.Asked,
-  newline-reads.Learnt,
+  put-newline-reads.Asked,
+  put-newline-reads.Learnt,
 ) (resolve-at t) resolve.Post resolve-Inv-loop resolve-μ-loop
 resolve-loop-again t c = resolving-on _ _ _ _ (c .before .before .before .before .before .before .before .before .before .before .before .before .before .before .before .before .before .before .before .before .before .before .loop .inv) (c .before .before .before .before .before .before .before .before .before .before .before .before .before .before .before .before .before .before .before .before .before .next-mark .ensures) (c .before .before .before .before .before .before .before .before .before .before .before .before .before .before .before .before .before .before .put .ensures) (search needs) (c .before .before .before .before .before .before .before .before .before .before .before .before .before .found .given .0 .0) (c .before .before .before .before .before .before .before .before .before .before .before .read-mark .ensures) {fine = c .before .before .before .before .if2 .w .ok} {o = c .before .before .before .before .if2 .w .number} (⊎-elim (λ w. came-inside (c .before .before .before .before .before .before .before .before .before .put-or-open .ensures) (omega (arith, c .before .before .before .before .before .before .before .before .before .before .before .before .before .before .before .if1 .left)) (w .0 .taken) (w .5 .ensures) (w .9 .ensures) (w .12) (w .13)) (λ w. came-put (c .before .before .before .before .before .before .before .before .before .put-or-open .ensures) (w .0 .left) (w .1) (w .2)) (c .before .before .before .before .if2 .came)) (not-false _ (c .before .before .if3 .left))
 
@@ -730,8 +730,8 @@ pub +resolve-spec : {M : Type 1} → statement M
   put-or-open-reads.Learnt,
   resolve-below t,
   resolve.Post,
-  newline-reads.Asked,
-  newline-reads.Learnt,
+  put-newline-reads.Asked,
+  put-newline-reads.Learnt,
 )
     (resolve-at t)
     resolve.Post
@@ -761,7 +761,7 @@ pub +resolve-spec : {M : Type 1} → statement M
     (resolve-part-its-text-end t)
     (resolve-sub-resolve t)
     (resolve-resolve-requires t)
-    (resolve-newline-requires t)
+    (resolve-put-newline-requires t)
     (resolve-refused-requires-2 t)
     (resolve-same-length-3 t)
     (resolve-returns-3 t)

@@ -3,7 +3,7 @@ use Rattle.includes.proofs.put_only.Statement.{statement}
 use Rattle.includes.proofs.put_only.Tie as tie
 use Rattle.includes.proofs.put_only.Reads as reads
 use Rattle.includes.proofs.put_only.Lts as lts
-use Rattle.includes.proofs.files.refused.Reads as refused-reads
+use Rattle.marked_files.proofs.refused.Reads as refused-reads
 use mathlib.Core.Path.{ap}
 
 refused-requires : tie.Need-refused-requires

@@ -4,8 +4,8 @@ use Rattle.includes.proofs.put_or_open.Tie as tie
 use Rattle.includes.proofs.put_or_open.Reads as reads
 use Rattle.includes.proofs.put_or_open.Lts as lts
 use Rattle.buffers.proofs.put.Reads as put-reads
-use Rattle.includes.proofs.files.open_file.Reads as open-file-reads
-use Rattle.includes.proofs.files.source.Reads as source-reads
+use Rattle.marked_files.proofs.open_file.Reads as open-file-reads
+use Rattle.marked_files.proofs.sources.put_source.Reads as put-source-reads
 use Rattle.includes.proofs.put_only.Reads as put-only-reads
 use Rattle.buffers.specs.Laws.{put-length}
 use Rattle.includes.specs.Resolve.{within-copied, within-include, within-source, handled-copied, handled-source, handled-file}
@@ -49,8 +49,8 @@ part-lang-start c = let h = within-source _ (c .before .before .before .before .
 part-lang-end : tie.Need-part-lang-end
 part-lang-end c = let h = within-source _ (c .before .before .before .before .before .before .before .before .pre .4) (c .before .before .what2 .given .1) in search needs
 
-source-requires : tie.Need-source-requires
-source-requires c κs = search needs
+put-source-requires : tie.Need-put-source-requires
+put-source-requires c κs = search needs
 
 put-only-requires-2 : tie.Need-put-only-requires-2
 put-only-requires-2 c κs = search needs
@@ -77,10 +77,10 @@ returns : tie.Need-returns
 returns c = rw (c .put-only .ensures) (handled-copied _ _ _ _ _ (c .before .before .before .before .before .before .before .what .given .1) (c .before .before .before .before .before .before .before .before .before .before .before .before .before .pre .2) (c .before .before .before .put .ensures))
 
 same-length-2 : tie.Need-same-length-2
-same-length-2 c = c .before .before .before .source .ensures .size
+same-length-2 c = c .before .before .before .put-source .ensures .size
 
 returns-2 : tie.Need-returns-2
-returns-2 c = rw (c .put-only2 .ensures) (handled-source _ _ _ _ _ (c .before .before .before .before .before .before .before .before .what2 .given .1) (c .before .before .before .source .ensures))
+returns-2 c = rw (c .put-only2 .ensures) (handled-source _ _ _ _ _ (c .before .before .before .before .before .before .before .before .what2 .given .1) (c .before .before .before .put-source .ensures))
 
 returns-3 : tie.Need-returns-3
 returns-3 c = handled-file _ _ _ _ _ (c .before .before .before .what3 .given .1) (c .open-file .ensures)
@@ -102,7 +102,7 @@ put-or-open-spec =
     sub-lang
     part-lang-start
     part-lang-end
-    source-requires
+    put-source-requires
     put-only-requires-2
     enum-known-what-3
     sub-open-file

@@ -1,0 +1,3 @@
+pub mod Marks
+pub mod Ahead
+pub mod Read
