@@ -15,7 +15,7 @@ pub fn sheet_limit(n: usize) -> usize
 pub fn refusal(bundle: &[u8], folder: &[u8], text: &[u8], sheet: &[u8], limit: usize) -> u8
     ensures { λ r. ⌜ Judges (now (bundle .entry)) (now (folder .entry)) (now (text .entry)) (now (sheet .entry)) limit r ⌝ }
 {
-    if !bundle::check(bundle) {
+    if !bundle_layout::check(bundle) {
         2
     } else if !sheet_layout::check(sheet) {
         3

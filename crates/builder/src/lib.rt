@@ -250,7 +250,7 @@ fn found_file(found: bundle::Found) -> FoundFile
 pub fn find_file(bundle: &[u8], path: &[u8]) -> FoundFile
     ensures { λ r. ⌜ findFileOf (now (bundle .entry)) (now (path .entry)) ≡ record { number = r .number; kind = r .kind; start = r .start; len = r .len } ⌝ }
 {
-    if !bundle::check(bundle) {
+    if !bundle_layout::check(bundle) {
         return FoundFile {
             number: 2,
             kind: 0,

@@ -18,9 +18,9 @@ use Rattle.rules.specs.Files.{File, absent, folder, file, entryAt, isFolderOf, 
 use Rattle.rules.specs.Laws.Bool.{and-l, and-r, isSome}
 use Rattle.rules.specs.Laws.Found.{some-same}
 use Rattle.scan.specs.Sets.{Starts, Sees, byteIs}
-use Rattle.bundle.specs.Entries.{entryOf, headAnswer, HeadAt}
-use Rattle.bundle.specs.Check.{closing, finish, bundle-rest, check-short}
-use Rattle.bundle.specs.declared.entries.Head.{Head}
+use Rattle.bundle_entries.specs.Entries.{entryOf, headAnswer, HeadAt}
+use Rattle.bundle_entries.specs.Whole.{closing, finish, bundle-rest, check-short}
+use Rattle.bundle_entries.specs.declared.Head.{Head}
 use Rattle.bundle.specs.declared.near.Relation.{Relation}
 use Rattle.bundle.specs.declared.Found.{Found}
 use Rattle.bundle.specs.declared.Found.the-variants.{Absent, Folder, File as At}

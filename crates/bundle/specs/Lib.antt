@@ -1,5 +1,2 @@
-pub mod Entries
-pub mod Order
-pub mod Check
 pub mod Find
 pub mod Open

@@ -1,4 +1,4 @@
-// The bundle (document 01, section 1): its layout, its files and folders. This is the only crate that asks a bundle for a path.
+// The bundle (document 01, section 1): its files and folders. This is the only crate that asks a bundle for a path.
 ghost use mathlib.Core.Path.{_≡_};
 ghost use Rattle.rules.specs.Bundle.{bundleOf};
 ghost use Rattle.rules.specs.Laws.Bool.{isSome};
@@ -9,35 +9,13 @@ ghost use Rattle.rules.specs.Files.{view, fetch, plain, opened, hasCitation, pr
 ghost use Rattle.bundle.specs.Find.{Finds, entriesOf};
 ghost use Rattle.bundle.specs.Open.{Opens, there, Root};
 
-pub mod entries;
 mod near;
-mod order;
-mod walk;
 
-use entries::entry_at;
-use entries::word;
+use bundle_entries::entry_at;
+use bundle_entries::word;
 use scan::paths::is_path;
 use scan::paths::join;
 use scan::paths::parent;
-
-// Does the bundle keep its layout?
-pub fn check(b: &[u8]) -> bool
-    ensures { λ r. ⌜ r ≡ isSome (bundleOf (now (b .entry))) ⌝ }
-{
-    if b.len() < 2 {
-        return false;
-    }
-    let mut remaining = word(b, 0);
-    let mut w = walk::start(true);
-    while 0 < remaining {
-        w = walk::next(b, w);
-        if !w.ok {
-            return false;
-        }
-        remaining -= 1;
-    }
-    w.at == b.len()
-}
 
 // What a path is in a bundle; a file's content stands at `start` in the bundle.
 pub enum Found {

@@ -2,8 +2,8 @@
 ghost use mathlib.Core.Path.{_≡_};
 ghost use Rattle.rules.specs.Bundle.{above};
 ghost use Rattle.bundle.specs.Find.{Near, Reachable};
-use crate::entries::Head;
-use crate::walk::path_of;
+use bundle_entries::Head;
+use bundle_entries::path_of;
 
 // Does p, followed by `/`, begin q?
 fn above(p: &[u8], q: &[u8]) -> bool

@@ -75,7 +75,7 @@ pub fn parse_definitions(bundle: &[u8], path: &[u8], left: &mut [u8], work: &mut
     if work.len() < 16 * limit {
         return refused(1);
     }
-    if !bundle::check(bundle) {
+    if !bundle_layout::check(bundle) {
         return refused(2);
     }
     let f = bundle::fetch(bundle, path);

@@ -3,7 +3,7 @@ use Rattle.arguments.proofs.refusal.Statement.{statement}
 use Rattle.arguments.proofs.refusal.Tie as tie
 use Rattle.arguments.proofs.refusal.Reads as reads
 use Rattle.arguments.proofs.refusal.Lts as lts
-use Rattle.bundle.proofs.check.Reads as check-reads
+use Rattle.bundle_layout.proofs.check.Reads as check-reads
 use Rattle.scan.proofs.is_ascii.Reads as is-ascii-reads
 use Rattle.scan.proofs.paths.is_folder.Reads as is-folder-reads
 use Rattle.sheet_layout.proofs.check.Reads as check-check-reads

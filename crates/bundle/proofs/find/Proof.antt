@@ -3,8 +3,8 @@ use Rattle.bundle.proofs.find.Statement.{statement}
 use Rattle.bundle.proofs.find.Tie as tie
 use Rattle.bundle.proofs.find.Reads as reads
 use Rattle.bundle.proofs.find.Lts as lts
-use Rattle.bundle.proofs.entries.entry_at.Reads as entry-at-reads
-use Rattle.bundle.proofs.entries.word.Reads as word-reads
+use Rattle.bundle_entries.proofs.entry_at.Reads as entry-at-reads
+use Rattle.bundle_entries.proofs.word.Reads as word-reads
 use Rattle.bundle.proofs.near.relate.Reads as relate-reads
 use native.Mathlib.Omega.{arith}
 use Rattle.bundle.specs.Find.{Finding, find-long, finding-start, ahead, reachable, finding-same, finding-on, finding-folder, finding-absent}

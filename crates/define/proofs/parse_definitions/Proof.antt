@@ -4,7 +4,7 @@ use Rattle.define.proofs.parse_definitions.Tie as tie
 use Rattle.define.proofs.parse_definitions.Reads as reads
 use Rattle.define.proofs.parse_definitions.Lts as lts
 use Rattle.arguments.proofs.sheet_limit.Reads as sheet-limit-reads
-use Rattle.bundle.proofs.check.Reads as check-reads
+use Rattle.bundle_layout.proofs.check.Reads as check-reads
 use Rattle.bundle.proofs.fetch.Reads as fetch-reads
 use Rattle.define.proofs.define.Reads as define-reads
 use Rattle.define.proofs.refused.Reads as refused-reads
