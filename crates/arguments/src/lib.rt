@@ -19,7 +19,7 @@ pub fn refusal(bundle: &[u8], folder: &[u8], text: &[u8], sheet: &[u8], limit: u
         2
     } else if !sheet_layout::check(sheet) {
         3
-    } else if !scan::paths::is_folder(folder) {
+    } else if !paths::is_folder(folder) {
         4
     } else if !scan::is_ascii(text) {
         6

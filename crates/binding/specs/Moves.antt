@@ -8,7 +8,7 @@ use lib.ListN.{length, take, drop, getD, set, length-append, length-drop, length
 use lib.Seq.{sets, sets-eq, length-sets, length-take-le, drop-set-lt, take-append-le, take-append-add, take-take, drop-append-add, drop-drop, take-at}
 use Rattle.scan.specs.Sets.{part}
 use Rattle.scan.specs.Laws.{cut-at}
-use Rattle.scan.specs.Paths.{drop-take}
+use Rattle.scan.specs.Laws.{drop-take}
 use Rattle.buffers.specs.Laws.{sets-append, sets-before, take-sets}
 use Rattle.sheet.specs.Parts.{length-slice, slice-part}
 

@@ -14,7 +14,7 @@ use lib.ListN.{set as put, length, take, drop, getD, length-append, length-take,
 use lib.Seq.{drop-cons, sets, sets-eq, take-at, drop-at, take-append-add, take-all, take-take, take-append-le, length-sets, length-take-le}
 use borrow.Author.Tests.{eq-eqb, ne-eqb, ltb-true, ltb-false}
 use Rattle.scan.specs.Sets.{part}
-use Rattle.scan.specs.Paths.{drop-take}
+use Rattle.scan.specs.Laws.{drop-take}
 use Rattle.buffers.specs.Laws.{sets-append, sets-before}
 use Rattle.rules.specs.Bytes.{less}
 use Rattle.rules.specs.Laws.Bool.{or-elim, or-false-l, or-false-r}

@@ -258,7 +258,7 @@ pub fn find_file(bundle: &[u8], path: &[u8]) -> FoundFile
             len: 0,
         };
     }
-    if !scan::paths::is_path(path) {
+    if !paths::is_path(path) {
         return FoundFile {
             number: 4,
             kind: 0,

@@ -13,7 +13,7 @@ use Rattle.rules.specs.Bytes.{ascii, isPath, join, parent, holds}
 use Rattle.rules.specs.Bundle.{Entry}
 use Rattle.rules.specs.Files.{View, view, contentOf, fetch, plain, opened, exists, hasCitation, upward, projectRoot}
 use borrow.Author.Tests.{leb-false}
-use Rattle.scan.specs.Paths.{path-long, Parent}
+use Rattle.paths.specs.Paths.{path-long, Parent}
 use Rattle.bundle.specs.Find.{Finds, fileAt}
 use Rattle.bundle.specs.declared.Found.{Found}
 use Rattle.bundle.specs.declared.Found.the-variants.{Absent, Folder, File as At}

@@ -13,9 +13,9 @@ mod near;
 
 use bundle_entries::entry_at;
 use bundle_entries::word;
-use scan::paths::is_path;
-use scan::paths::join;
-use scan::paths::parent;
+use paths::is_path;
+use paths::join;
+use paths::parent;
 
 // What a path is in a bundle; a file's content stands at `start` in the bundle.
 pub enum Found {

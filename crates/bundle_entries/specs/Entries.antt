@@ -20,8 +20,8 @@ use Rattle.rules.specs.Laws.Bool.{or-elim, or-false-l, or-false-r}
 use Rattle.rules.specs.Laws.Layout.{byte-at, byte-end, word-at, word-end, takes, takes-short, take-some}
 use Rattle.scan.specs.Sets.{Spans}
 use Rattle.scan.specs.Laws.{span-all, all-span}
-use Rattle.scan.specs.Paths.{Joins}
-use Rattle.scan.specs.declared.paths.Joined.{Joined}
+use Rattle.paths.specs.Paths.{Joins}
+use Rattle.paths.specs.declared.Joined.{Joined}
 use Rattle.bundle_entries.specs.declared.Field.{Field}
 use Rattle.bundle_entries.specs.declared.Head.{Head}
 

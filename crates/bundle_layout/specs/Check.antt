@@ -14,8 +14,8 @@ use Rattle.rules.specs.Bytes.{isPath, less}
 use Rattle.rules.specs.Layout.{Parser, bind, _>>=_, _>>_, pure, times}
 use Rattle.rules.specs.Bundle.{Entry, entry, goodPaths, pathsOf, bundleOf}
 use Rattle.rules.specs.Laws.Bool.{and-l, and-r, isSome}
-use Rattle.scan.specs.Paths.{path-long}
-use Rattle.scan.specs.declared.paths.Joined.{Joined}
+use Rattle.paths.specs.Paths.{path-long}
+use Rattle.paths.specs.declared.Joined.{Joined}
 use Rattle.bundle_entries.specs.Whole.{finish, closing, bundle-rest}
 use Rattle.bundle_entries.specs.Entries.{entryOf, headAnswer, HeadAt, PathOf}
 use Rattle.bundle_layout.specs.Order.{Well, Marks, Marked, Agree, keeps, well-start, well-on, marks-on, bad-path, bad-order, bad-clash, well-good, order-inside}

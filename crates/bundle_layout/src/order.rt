@@ -6,7 +6,7 @@ ghost use lib.Dec.{eqb};
 ghost use lib.ListN.{length, getD};
 ghost use Rattle.rules.specs.Bytes.{less};
 ghost use Rattle.bundle_layout.specs.Order.{Agree, Marked, keeps};
-use scan::paths::is_path;
+use paths::is_path;
 
 // In how many bytes two paths agree from the start.
 pub fn agree(x: &[u8], q: &[u8]) -> usize

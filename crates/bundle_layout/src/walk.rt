@@ -8,7 +8,7 @@ use crate::order::keeps;
 use crate::order::mark;
 use bundle_entries::entry_at;
 use bundle_entries::path_of;
-use scan::paths::Joined;
+use paths::Joined;
 
 // Where the next entry begins, the last path, and which of its starts are paths themselves; not ok where a rule is broken.
 pub struct Walk {

@@ -14,7 +14,7 @@ use Rattle.buffers.specs.Put.{Put}
 use Rattle.buffers.specs.Laws.{put-none}
 use Rattle.strings.specs.Read.{Wrote}
 use Rattle.scan.specs.Sets.{part}
-use Rattle.scan.specs.Paths.{tail-part}
+use Rattle.scan.specs.Laws.{tail-part}
 use Rattle.calls.specs.declared.values.Value.{Value}
 use Rattle.calls.specs.declared.values.Value.the-variants.{Empty, Literal, Reference, Expression, File}
 

@@ -21,7 +21,7 @@ use Rattle.bundle.specs.Open.{Opens, answerOf}
 use Rattle.bundle.specs.declared.Opened.{Opened}
 use Rattle.bundle.specs.declared.Opened.the-variants.{Refused, Text}
 use Rattle.scan.specs.Sets.{part}
-use Rattle.scan.specs.Paths.{Parent}
+use Rattle.paths.specs.Paths.{Parent}
 use Rattle.values.specs.Values.{slots, Room}
 use Rattle.definitions.specs.File.{Parses}
 use Rattle.definitions.specs.declared.files.Parsed.{Parsed}

@@ -47,7 +47,7 @@ fn define(
     if !scan::is_ascii(&bundle[start..end]) {
         return refused(6);
     }
-    let parent = scan::paths::parent(path);
+    let parent = paths::parent(path);
     let limit = sheet_limit(left.len());
     let r = definitions::files::parse(
         bundle,

@@ -20,8 +20,9 @@ use Rattle.rules.specs.Definitions.{Names, names, bound, importStep}
 use Rattle.rules.specs.Imports.{bindNames, importFile, imported, fileSheet, importedSheet}
 use Rattle.scan.specs.Sets.{part, Spans, Sees, byteIs}
 use Rattle.scan.specs.Laws.{sees-the, skips-at}
-use Rattle.scan.specs.Paths.{tail-part, path-long, Joins, Parent}
-use Rattle.scan.specs.declared.paths.Joined.{Joined}
+use Rattle.scan.specs.Laws.{tail-part}
+use Rattle.paths.specs.Paths.{path-long, Joins, Parent}
+use Rattle.paths.specs.declared.Joined.{Joined}
 use Rattle.bundle.specs.Find.{Finds, fileAt}
 use Rattle.bundle.specs.declared.Found.{Found}
 use Rattle.bundle.specs.declared.Found.the-variants.{Absent, Folder, File as At}

@@ -1,7 +1,7 @@
 // The imports of a file of definitions (document 01, section 7), up to the file that one names.
 use bundle::Found;
 use scan::Set;
-use scan::paths::Joined;
+use paths::Joined;
 ghost use mathlib.Core.Path.{_≡_};
 ghost use mathlib.Core.Bool.{true};
 ghost use mathlib.Core.List.{List};
@@ -66,11 +66,11 @@ fn join_path(folder: &[u8], path: [u8; 256], n: usize) -> Joined
             bytes: [0u8; 255],
         };
     }
-    let j = scan::paths::join(folder, &path[..n]);
+    let j = paths::join(folder, &path[..n]);
     let bytes = j.bytes;
     let len = j.len;
     Joined {
-        ok: j.ok & scan::paths::is_path(&bytes[..len]),
+        ok: j.ok & paths::is_path(&bytes[..len]),
         len: len,
         bytes: bytes,
     }
@@ -102,7 +102,7 @@ fn file_target(b: &[u8], start: usize, len: usize, path: &[u8], levels: usize) -
     Target::File {
         start: start,
         end: end,
-        parent: scan::paths::parent(path),
+        parent: paths::parent(path),
     }
 }
 

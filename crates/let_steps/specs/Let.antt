@@ -15,8 +15,8 @@ use Rattle.rules.specs.Laws.Sheet.{set-good}
 use Rattle.rules.specs.Laws.Texts.{underscored-words}
 use Rattle.scan.specs.Sets.{part, Spans, Skips}
 use Rattle.scan.specs.Stretches.{span-took, all-part}
-use Rattle.scan.specs.Paths.{Trims}
-use Rattle.scan.specs.declared.paths.Range.{Range}
+use Rattle.paths.specs.Paths.{Trims}
+use Rattle.paths.specs.declared.Range.{Range}
 use Rattle.sheet.specs.Order.{underscoredIf}
 use Rattle.sheet.specs.Find.{IsSheet, Gives}
 use Rattle.binding.specs.Write.{BindsTo, IsThere}

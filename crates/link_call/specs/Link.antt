@@ -12,7 +12,7 @@ use Rattle.rules.specs.Strings.{expression}
 use Rattle.rules.specs.Expansion.{Call, outputs, linkText, linkContentBlock, linkEnd, link}
 use Rattle.scan.specs.Sets.{byteIs, notByte, part, Spans, Skips, Sees}
 use Rattle.scan.specs.Laws.{sees-the, skip-at}
-use Rattle.scan.specs.Paths.{drop-take, tail-part}
+use Rattle.scan.specs.Laws.{drop-take, tail-part}
 use Rattle.scan.specs.Stretches.{spans-but}
 use Rattle.strings.specs.Read.{Wrote}
 use Rattle.buffers.specs.Put.{Put}

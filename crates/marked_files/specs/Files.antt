@@ -15,8 +15,8 @@ use Rattle.rules.specs.Files.{View, fetch}
 use Rattle.rules.specs.Includes.{included, insideFile, includeStep}
 use Rattle.buffers.specs.Put.{Put}
 use Rattle.buffers.specs.Laws.{put-length}
-use Rattle.scan.specs.Paths.{Joins, Parent}
-use Rattle.scan.specs.declared.paths.Joined.{Joined}
+use Rattle.paths.specs.Paths.{Joins, Parent}
+use Rattle.paths.specs.declared.Joined.{Joined}
 use Rattle.bundle.specs.Open.{Opens, answerOf, long-fetch}
 use Rattle.bundle.specs.declared.Opened.{Opened}
 use Rattle.bundle.specs.declared.Opened.the-variants.{Refused, Text}

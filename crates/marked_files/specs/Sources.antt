@@ -16,8 +16,8 @@ use Rattle.rules.specs.Includes.{lastNewline, fenced}
 use Rattle.buffers.specs.Put.{Put, Writer}
 use Rattle.buffers.specs.Laws.{put-length, put-writer, put-then}
 use Rattle.scan.specs.Laws.{not-empty, ends-last}
-use Rattle.scan.specs.Paths.{Joins}
-use Rattle.scan.specs.declared.paths.Joined.{Joined}
+use Rattle.paths.specs.Paths.{Joins}
+use Rattle.paths.specs.declared.Joined.{Joined}
 use Rattle.bundle.specs.Open.{Opens, answerOf, long-opened}
 use Rattle.bundle.specs.declared.Opened.{Opened}
 use Rattle.bundle.specs.declared.Opened.the-variants.{Refused, Text}

@@ -1,7 +1,7 @@
 // The files that marks name (document 01, section 4): an included file is opened, and a newline put behind it; a source is put as a block.
 use bundle::Opened;
-use scan::paths::join;
-use scan::paths::parent;
+use paths::join;
+use paths::parent;
 ghost use mathlib.Core.Path.{_≡_};
 ghost use mathlib.Core.Bool.{true};
 ghost use Rattle.rules.specs.Reader.{bytes};

@@ -1,7 +1,7 @@
 // Sources: the file that `#source-include` names is opened, and put as a block.
 use crate::Written;
 use bundle::Opened;
-use scan::paths::join;
+use paths::join;
 ghost use mathlib.Core.Path.{_≡_};
 ghost use mathlib.Core.Bool.{true};
 ghost use mathlib.Core.List.{_++_};

@@ -15,8 +15,8 @@ use Rattle.rules.specs.Files.{View, fetch, opened, projectRoot}
 use Rattle.rules.specs.Includes.{quoted, quotedIf, quote, noParen, withLanguage, withPath, sourceArguments, overParen, toNewline, behindSource, fenced, wrote, copied, commented, included, includeOf, includeMark, sourceText, sourceOf, sourceMark, includeStep}
 use Rattle.scan.specs.Sets.{part, Spans, Skips, Sees, Stands, notByte}
 use Rattle.scan.specs.Laws.{not-end, skips-at, mark-of}
-use Rattle.scan.specs.Paths.{Trims}
-use Rattle.scan.specs.declared.paths.Range.{Range}
+use Rattle.paths.specs.Paths.{Trims}
+use Rattle.paths.specs.declared.Range.{Range}
 use Rattle.marks.specs.declared.ahead.Ahead.{Ahead}
 use Rattle.marks.specs.declared.ahead.Known.{Known}
 use Rattle.marks.specs.declared.ahead.Pair.{Pair}

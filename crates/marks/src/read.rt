@@ -8,7 +8,7 @@ use crate::ahead::quote;
 use crate::commented;
 use crate::mark_length;
 use scan::Set;
-use scan::paths::trim;
+use paths::trim;
 ghost use mathlib.Core.Path.{_≡_};
 ghost use mathlib.Core.List.{[]};
 ghost use Prim.Native.Nat.{_+_, _≤_};

@@ -15,7 +15,7 @@ use Rattle.rules.specs.Expansion.{Arguments, stalled, arguments, Round, langVal
 use Rattle.rules.specs.Laws.Enough.{rounds-again, rounds-stop, argument-moving}
 use Rattle.scan.specs.Sets.{byteIs, part, Spans, Sees}
 use Rattle.scan.specs.Laws.{seen, sees-the, seen-byte, skip-at, Spanning, spanning-on, spanning-off, spanning-end}
-use Rattle.scan.specs.Paths.{tail-part}
+use Rattle.scan.specs.Laws.{tail-part}
 use Rattle.calls.specs.declared.values.Value.{Value}
 use Rattle.calls.specs.declared.values.Value.the-variants.{Empty, Literal, Reference}
 use Rattle.raw_call.specs.declared.args.Lang.{Lang}

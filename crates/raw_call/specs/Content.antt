@@ -16,7 +16,7 @@ use Rattle.rules.specs.Files.{View, opened}
 use Rattle.rules.specs.Expansion.{Content, handedBack, noContent, given, rawContent, withoutSlash, readCall, content}
 use Rattle.scan.specs.Sets.{Spans, Skips, Sees, Starts, byteIs}
 use Rattle.scan.specs.Laws.{sees-the, skips-at, mark-of, mark-yes, mark-no}
-use Rattle.scan.specs.Paths.{drop-take, tail-part}
+use Rattle.scan.specs.Laws.{drop-take, tail-part}
 use Rattle.bundle.specs.Open.{Opens, answerOf, stop, long-opened}
 use Rattle.strings.specs.Read.{Wrote}
 use Rattle.strings.specs.Paths.{PathIn}

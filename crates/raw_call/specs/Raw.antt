@@ -14,7 +14,7 @@ use Rattle.rules.specs.Expansion.{Content, rawText, rawEnd, rawArguments, raw, 
 use Rattle.rules.specs.Laws.Bool.{and-l, and-r, and-i}
 use Rattle.scan.specs.Sets.{Spans, Sees, Skips, byteIs}
 use Rattle.scan.specs.Laws.{not-empty}
-use Rattle.scan.specs.Paths.{TrimsEnd, trimEnd-cons}
+use Rattle.paths.specs.Paths.{TrimsEnd, trimEnd-cons}
 use Rattle.buffers.specs.Put.{overflow, after, Put, Writer}
 use Rattle.buffers.specs.Laws.{after-split, put-length, put-fits, put-not, put-then, put-writer, put-ended, sets-append, take-sets, sets-clipped}
 use Rattle.buffers.specs.Emits.{Fill, Fills, put-fill, put-fills, fill-then}

@@ -7,7 +7,7 @@ use calls::Outcome;
 use calls::values::Value;
 use calls::values::put_value;
 use scan::Set;
-use scan::paths::trim_end;
+use paths::trim_end;
 ghost use mathlib.Core.Path.{_≡_};
 ghost use mathlib.Core.Bool.{true};
 ghost use Prim.Native.Nat.{_≤_};

@@ -5,12 +5,12 @@ use mathlib.Core.Bool.{Bool, true, false, not, true≢false, false≢true, _&&_}
 use Prim.Native.Char.{Char, code}
 use Prim.Native.Nat.{ℕ, zero, suc, _+_, _-_, _≤_, _<_}
 use native.Mathlib.Numerals.{add-one}
-use native.Mathlib.Nat.{add-zero}
+use native.Mathlib.Nat.{add-zero, sub-zero, suc-sub-suc}
 use native.Mathlib.Omega.{arith}
 use native.Mathlib.Decide.{decLe}
 use lib.Dec.{ltb, eqb}
 use lib.ListN.{length, take, drop, getD, drop-of-length-le, length-append, length-drop}
-use lib.Seq.{drop-cons, drop-drop, take-add, take-append-seam}
+use lib.Seq.{drop-cons, drop-drop, take-add, take-all, take-nil, take-append-seam, length-take-le}
 use borrow.Author.Tests.{lt-ltb, le-ltb, eq-eqb, ne-eqb, eqb-true, eqb-false, not-true as negated-true, not-false as negated-false}
 use Rattle.rules.specs.Reader.{Reader, the, but, all, empty, span, sees, skip, prefix, same, mark}
 use Rattle.rules.specs.Run.{endsInNewline}
@@ -239,3 +239,16 @@ all-says p t j s = go (eqb j (length t)) refl
     go : (c : Bool) → eqb j (length t) ≡ c → c ≡ all p t
     go true e = sym (spans-all p t 0 j s (eqb-true j (length t) e))
     go false e = sym (spans-not p t 0 j s (eqb-false j (length t) e))
+
+pub drop-take : (a n : ℕ) (l : List ℕ) → drop a (take n l) ≡ take (n - a) (drop a l)
+drop-take zero n l = rw sub-zero
+drop-take (suc a) zero l = let z : 0 - suc a ≡ 0 = omega arith in rw z refl
+drop-take (suc a) (suc n) [] = sym (take-nil (suc n - suc a))
+drop-take (suc a) (suc n) (x ∷ xs) = rw suc-sub-suc (drop-take a n xs)
+
+pub tail-part : (t : List ℕ) (a : ℕ) → take (length t - a) (drop a t) ≡ drop a t
+tail-part t a = take-all (length t - a) (drop a t) (omega (arith, length-drop a t))
+
+-- A path's start in the array that holds it.
+pub start-length : (n : ℕ) (x : List ℕ) → length x ≡ 255 → n ≤ 255 → n ≡ length (take n x)
+start-length n x e h = sym (length-take-le n x (omega arith))

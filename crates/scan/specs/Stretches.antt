@@ -11,7 +11,7 @@ use Rattle.rules.specs.Reader.{all, but, span}
 use Rattle.rules.specs.Laws.Bool.{and-l, and-r, and-i}
 use Rattle.rules.specs.Laws.Texts.{all-left, all-right}
 use Rattle.scan.specs.Sets.{part, Spans, notByte}
-use Rattle.scan.specs.Paths.{drop-take}
+use Rattle.scan.specs.Laws.{drop-take}
 
 all-each : (p : ℕ → Bool) (l : List ℕ) (k : ℕ) → all p l ≡ true → k < length l → p (getD l k 0) ≡ true
 unfolding all

@@ -21,7 +21,7 @@ use Rattle.sheet.specs.Parts.{part-slice}
 use Rattle.sheet.specs.Order.{underscoredIf}
 use Rattle.sheet.specs.Find.{IsSheet, Gives, foundText, gives-string}
 use Rattle.scan.specs.Laws.{seen, skip-at}
-use Rattle.scan.specs.Paths.{tail-part}
+use Rattle.scan.specs.Laws.{tail-part}
 use Rattle.scan.specs.Stretches.{span-stops}
 use Rattle.scan.specs.Sets.{plainByte, Spans, Sees}
 use Rattle.buffers.specs.Put.{Put, Writer}

@@ -17,7 +17,7 @@ use Rattle.rules.specs.Laws.Entries.{shrinks-dictionary, entry-moving}
 use Rattle.scan.specs.Sets.{part, Spans, Sees, Starts, byteIs, notByte}
 use Rattle.scan.specs.Laws.{sees-the, mark-yes, mark-no}
 use Rattle.scan.specs.Stretches.{spans-but}
-use Rattle.scan.specs.Paths.{tail-part}
+use Rattle.scan.specs.Laws.{tail-part}
 use Rattle.sheet.specs.Find.{IsSheet}
 use Rattle.binding.specs.Place.{one-some, Between, between-start}
 use Rattle.binding.specs.Mark.{ascending, set-ascending, Marked, HasMark}

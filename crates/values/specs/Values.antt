@@ -17,7 +17,7 @@ use Rattle.rules.specs.Strings.{expression}
 use Rattle.rules.specs.Definitions.{measured, textValue}
 use Rattle.rules.specs.Laws.Bool.{or-elim, or-false-l, or-false-r}
 use Rattle.scan.specs.Sets.{Skips}
-use Rattle.scan.specs.Paths.{tail-part}
+use Rattle.scan.specs.Laws.{tail-part}
 use Rattle.buffers.specs.Laws.{put-length, put-fits, put-not, stored-first}
 use Rattle.buffers.specs.Emits.{put-fill}
 use Rattle.strings.specs.Read.{Wrote}

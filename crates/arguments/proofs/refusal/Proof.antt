@@ -5,7 +5,7 @@ use Rattle.arguments.proofs.refusal.Reads as reads
 use Rattle.arguments.proofs.refusal.Lts as lts
 use Rattle.bundle_layout.proofs.check.Reads as check-reads
 use Rattle.scan.proofs.is_ascii.Reads as is-ascii-reads
-use Rattle.scan.proofs.paths.is_folder.Reads as is-folder-reads
+use Rattle.paths.proofs.is_folder.Reads as is-folder-reads
 use Rattle.sheet_layout.proofs.check.Reads as check-check-reads
 use mathlib.Core.Path.{_≡_, refl, sym, ap, _∙_}
 use native.Mathlib.Omega.{arith}

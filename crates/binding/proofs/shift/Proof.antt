@@ -11,7 +11,7 @@ use native.Mathlib.Omega.{arith}
 use Prim.Native.Nat.{_+_, _-_}
 use lib.ListN.{take, drop}
 use lib.Seq.{sets}
-use Rattle.scan.specs.Paths.{drop-take}
+use Rattle.scan.specs.Laws.{drop-take}
 use Rattle.binding.specs.Moves.{sets-slice}
 
 returns : tie.Need-returns

@@ -4,7 +4,7 @@ use Rattle.bundle.proofs.fetch.Tie as tie
 use Rattle.bundle.proofs.fetch.Reads as reads
 use Rattle.bundle.proofs.fetch.Lts as lts
 use Rattle.bundle.proofs.find.Reads as find-reads
-use Rattle.scan.proofs.paths.is_path.Reads as is-path-reads
+use Rattle.paths.proofs.is_path.Reads as is-path-reads
 use borrow.Author.Tests.{not-true, not-false}
 use Rattle.bundle.specs.Open.{fetch-path, fetch-absent, fetch-folder, fetch-file}
 

@@ -5,9 +5,9 @@ use Rattle.bundle.proofs.has_citation.Reads as reads
 use Rattle.bundle.proofs.has_citation.Lts as lts
 use Rattle.bundle.proofs.exists.Reads as exists-reads
 use Rattle.bundle.proofs.find.Reads as find-reads
-use Rattle.scan.proofs.paths.join.Reads as join-reads
+use Rattle.paths.proofs.join.Reads as join-reads
 use borrow.Author.Tests.{not-true, not-false}
-use Rattle.scan.specs.Paths.{start-length}
+use Rattle.scan.specs.Laws.{start-length}
 use Rattle.bundle.specs.Open.{citation-long, citation-asked}
 
 slice-aggregate-join : tie.Need-slice-aggregate-join

@@ -4,7 +4,7 @@ use Rattle.bundle.proofs.project_root.Tie as tie
 use Rattle.bundle.proofs.project_root.Reads as reads
 use Rattle.bundle.proofs.project_root.Lts as lts
 use Rattle.bundle.proofs.has_citation.Reads as has-citation-reads
-use Rattle.scan.proofs.paths.parent.Reads as parent-reads
+use Rattle.paths.proofs.parent.Reads as parent-reads
 use Rattle.rules.specs.Files.{view}
 use Rattle.bundle.specs.Find.{entriesOf}
 use Rattle.bundle.specs.Open.{Rising, rising-length, rising-start, rising-found, rising-on, rising-top, rising-none}

@@ -3,7 +3,7 @@ use Rattle.bundle_entries.proofs.path_of.Statement.{statement}
 use Rattle.bundle_entries.proofs.path_of.Tie as tie
 use Rattle.bundle_entries.proofs.path_of.Reads as reads
 use Rattle.bundle_entries.proofs.path_of.Lts as lts
-use Rattle.scan.proofs.paths.join.Reads as join-reads
+use Rattle.paths.proofs.join.Reads as join-reads
 use Rattle.bundle_entries.specs.Entries.{path-of}
 
 add-e : tie.Need-add-e

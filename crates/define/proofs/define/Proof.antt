@@ -7,7 +7,7 @@ use Rattle.arguments.proofs.sheet_limit.Reads as sheet-limit-reads
 use Rattle.define.proofs.refused.Reads as refused-reads
 use Rattle.definitions.proofs.files.parse.Reads as parse-reads
 use Rattle.scan.proofs.is_ascii.Reads as is-ascii-reads
-use Rattle.scan.proofs.paths.parent.Reads as parent-reads
+use Rattle.paths.proofs.parent.Reads as parent-reads
 use mathlib.Core.Path.{refl, sym, _∙_}
 use native.Mathlib.Omega.{arith}
 use borrow.Author.Tests.{not-true, not-false}

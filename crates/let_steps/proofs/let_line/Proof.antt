@@ -4,7 +4,7 @@ use Rattle.let_steps.proofs.let_line.Tie as tie
 use Rattle.let_steps.proofs.let_line.Reads as reads
 use Rattle.let_steps.proofs.let_line.Lts as lts
 use Rattle.scan.proofs.find.Reads as find-reads
-use Rattle.scan.proofs.paths.trim.Reads as trim-reads
+use Rattle.paths.proofs.trim.Reads as trim-reads
 use Rattle.scan.proofs.skip.Reads as skip-reads
 use Rattle.scan.proofs.span.Reads as span-reads
 use Rattle.rules.specs.Reader.{but}

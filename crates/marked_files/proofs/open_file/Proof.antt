@@ -6,11 +6,11 @@ use Rattle.marked_files.proofs.open_file.Lts as lts
 use Rattle.bundle.proofs.fetch.Reads as fetch-reads
 use Rattle.marked_files.proofs.refused.Reads as refused-reads
 use Rattle.scan.proofs.is_ascii.Reads as is-ascii-reads
-use Rattle.scan.proofs.paths.join.Reads as join-reads
-use Rattle.scan.proofs.paths.parent.Reads as parent-reads
+use Rattle.paths.proofs.join.Reads as join-reads
+use Rattle.paths.proofs.parent.Reads as parent-reads
 use mathlib.Core.Path.{sym, _∙_}
 use borrow.Author.Tests.{not-true, not-false}
-use Rattle.scan.specs.Paths.{start-length}
+use Rattle.scan.specs.Laws.{start-length}
 use Rattle.bundle.specs.Open.{text-inside}
 use Rattle.marked_files.specs.Files.{same-file, file-long, file-refused, file-seven, file-six, file-open, fetched-no, fetched, parent-of}
 

@@ -27,7 +27,7 @@ use native.Mathlib.Omega.{arith}
 use lib.ListN.{length}
 use lib.Seq.{length-take-le}
 use borrow.Author.Tests.{not-true, not-false}
-use Rattle.scan.specs.Paths.{tail-part}
+use Rattle.scan.specs.Laws.{tail-part}
 use Rattle.values.specs.Values.{slot-le, room-text}
 use Rattle.values.specs.Dictionary.{value-quote, value-open, value-none, value-name, value-other, dictionary-seven, Entering, entering-start, entering-two, entering-behind, entering-close, after-size, after-records, entry-bindable, entry-mark, entry-end, entry-source, entering-no, bound-size, entering-over, entering-on, entering-moves}
 

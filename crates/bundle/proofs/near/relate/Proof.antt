@@ -7,7 +7,7 @@ use Rattle.bundle.proofs.near.above.Reads as above-reads
 use Rattle.scan.proofs.same.Reads as same-reads
 use Rattle.bundle_entries.proofs.path_of.Reads as path-of-reads
 use mathlib.Core.Path.{_∙_}
-use Rattle.scan.specs.Paths.{start-length}
+use Rattle.scan.specs.Laws.{start-length}
 use Rattle.bundle.specs.Find.{near-of}
 
 path-of-requires : tie.Need-path-of-requires

@@ -5,7 +5,7 @@ use Rattle.bundle_layout.proofs.order.keeps.Reads as reads
 use Rattle.bundle_layout.proofs.order.keeps.Lts as lts
 use Rattle.bundle_layout.proofs.order.clashes.Reads as clashes-reads
 use Rattle.bundle_layout.proofs.order.ordered.Reads as ordered-reads
-use Rattle.scan.proofs.paths.is_path.Reads as is-path-reads
+use Rattle.paths.proofs.is_path.Reads as is-path-reads
 use borrow.Author.Tests.{not-true, not-false}
 use Rattle.bundle_layout.specs.Order.{keeps-path, keeps-order, keeps-clash, order-inside}
 

@@ -9,7 +9,7 @@ use Rattle.bundle_layout.proofs.order.mark.Reads as mark-reads
 use Rattle.bundle_layout.proofs.walk.start.Reads as start-reads
 use borrow.Author.Tests.{not-true, not-false}
 use native.Mathlib.Omega.{arith}
-use Rattle.scan.specs.Paths.{start-length}
+use Rattle.scan.specs.Laws.{start-length}
 use Rattle.bundle_layout.specs.Check.{follow-no, follow-yes, keeps-inside}
 
 array-share-prefix-x : tie.Need-array-share-prefix-x

@@ -4,7 +4,7 @@ use Rattle.definition_imports.proofs.imports.file_target.Tie as tie
 use Rattle.definition_imports.proofs.imports.file_target.Reads as reads
 use Rattle.definition_imports.proofs.imports.file_target.Lts as lts
 use Rattle.scan.proofs.is_ascii.Reads as is-ascii-reads
-use Rattle.scan.proofs.paths.parent.Reads as parent-reads
+use Rattle.paths.proofs.parent.Reads as parent-reads
 use borrow.Author.Tests.{not-true, not-false}
 use Rattle.definition_imports.specs.Import.{file-seven, file-six, file-read}
 

@@ -3,12 +3,12 @@ use Rattle.definition_imports.proofs.imports.join_path.Statement.{state
 use Rattle.definition_imports.proofs.imports.join_path.Tie as tie
 use Rattle.definition_imports.proofs.imports.join_path.Reads as reads
 use Rattle.definition_imports.proofs.imports.join_path.Lts as lts
-use Rattle.scan.proofs.paths.is_path.Reads as is-path-reads
-use Rattle.scan.proofs.paths.join.Reads as join-reads
+use Rattle.paths.proofs.is_path.Reads as is-path-reads
+use Rattle.paths.proofs.join.Reads as join-reads
 use mathlib.Core.Path.{_≡_, sym}
 use native.Mathlib.Omega.{arith}
 use lib.Seq.{length-take-le}
-use Rattle.scan.specs.Paths.{start-length}
+use Rattle.scan.specs.Laws.{start-length}
 use Rattle.definition_imports.specs.Import.{path-over, path-joined}
 
 returns : tie.Need-returns

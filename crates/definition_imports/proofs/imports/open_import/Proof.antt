@@ -6,7 +6,7 @@ use Rattle.definition_imports.proofs.imports.open_import.Lts as lts
 use Rattle.bundle.proofs.find.Reads as find-reads
 use Rattle.definition_imports.proofs.imports.file_target.Reads as file-target-reads
 use borrow.Author.Tests.{not-true, not-false}
-use Rattle.scan.specs.Paths.{start-length}
+use Rattle.scan.specs.Laws.{start-length}
 use Rattle.definition_imports.specs.Import.{found-inside, open-four, open-absent, open-folder, open-file}
 
 returns : tie.Need-returns

@@ -5,11 +5,11 @@ use Rattle.marked_files.proofs.sources.open_source.Reads as reads
 use Rattle.marked_files.proofs.sources.open_source.Lts as lts
 use Rattle.bundle.proofs.open_text.Reads as open-text-reads
 use Rattle.bundle.proofs.project_root.Reads as project-root-reads
-use Rattle.scan.proofs.paths.join.Reads as join-reads
+use Rattle.paths.proofs.join.Reads as join-reads
 use mathlib.Core.Path.{sym}
 use borrow.Author.Tests.{not-true, not-false}
 use lib.Seq.{length-take-le}
-use Rattle.scan.specs.Paths.{start-length}
+use Rattle.scan.specs.Laws.{start-length}
 use Rattle.marked_files.specs.Sources.{source-long, source-path}
 
 project-root-requires : tie.Need-project-root-requires

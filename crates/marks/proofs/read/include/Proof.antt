@@ -6,7 +6,7 @@ use Rattle.marks.proofs.read.include.Lts as lts
 use Rattle.marks.proofs.ahead.quote.Reads as quote-reads
 use Rattle.marks.proofs.read.copied.Reads as copied-reads
 use Rattle.marks.proofs.read.paired.Reads as paired-reads
-use Rattle.scan.proofs.paths.trim.Reads as trim-reads
+use Rattle.paths.proofs.trim.Reads as trim-reads
 use mathlib.Core.Path.{ap, _∙_}
 use borrow.Author.Tests.{not-true, not-false}
 use Rattle.marks.specs.Read.{same-read, copiedRead, include-none, include-some}

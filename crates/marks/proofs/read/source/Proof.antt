@@ -5,7 +5,7 @@ use Rattle.marks.proofs.read.source.Reads as reads
 use Rattle.marks.proofs.read.source.Lts as lts
 use Rattle.marks.proofs.ahead.quote.Reads as quote-reads
 use Rattle.marks.proofs.read.behind_source.Reads as behind-source-reads
-use Rattle.scan.proofs.paths.trim.Reads as trim-reads
+use Rattle.paths.proofs.trim.Reads as trim-reads
 use Rattle.marks.specs.Read.{source-read}
 
 add-quote : tie.Need-add-quote

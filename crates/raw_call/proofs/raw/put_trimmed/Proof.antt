@@ -4,7 +4,7 @@ use Rattle.raw_call.proofs.raw.put_trimmed.Tie as tie
 use Rattle.raw_call.proofs.raw.put_trimmed.Reads as reads
 use Rattle.raw_call.proofs.raw.put_trimmed.Lts as lts
 use Rattle.calls.proofs.values.put_value.Reads as put-value-reads
-use Rattle.scan.proofs.paths.trim_end.Reads as trim-end-reads
+use Rattle.paths.proofs.trim_end.Reads as trim-end-reads
 use mathlib.Core.Path.{refl}
 use native.Mathlib.Omega.{arith}
 use Rattle.buffers.specs.Laws.{put-ended}

@@ -1,9 +1,9 @@
 use borrow.Author.Needs.{needs}
-use Rattle.scan.proofs.paths.joined_len.Statement.{statement}
-use Rattle.scan.proofs.paths.joined_len.Tie as tie
-use Rattle.scan.proofs.paths.joined_len.Reads as reads
-use Rattle.scan.proofs.paths.joined_len.Lts as lts
-use Rattle.scan.specs.Paths.{joined-len-empty, joined-len-over, joined-len-sum}
+use Rattle.paths.proofs.joined_len.Statement.{statement}
+use Rattle.paths.proofs.joined_len.Tie as tie
+use Rattle.paths.proofs.joined_len.Reads as reads
+use Rattle.paths.proofs.joined_len.Lts as lts
+use Rattle.paths.specs.Paths.{joined-len-empty, joined-len-over, joined-len-sum}
 
 returns : tie.Need-returns
 returns c = joined-len-empty _ _ (c .if1 .taken)

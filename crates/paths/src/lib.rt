@@ -1,12 +1,12 @@
 // Paths and trimming (document 01, section 1): the path rule, joining, a path's folder.
-use crate::Set;
-use crate::member;
-use crate::span;
+use scan::Set;
+use scan::member;
+use scan::span;
 ghost use mathlib.Core.Path.{_≡_};
 ghost use Prim.Native.Nat.{_≤_, _<_};
 ghost use lib.ListN.{length, getD};
 ghost use Rattle.rules.specs.Bytes.{isPath, isFolder, join};
-ghost use Rattle.scan.specs.Paths.{dotted, named, ended, step, whole, Parent, JoinedLen, Joins, TrimsEnd, Trims};
+ghost use Rattle.paths.specs.Paths.{dotted, named, ended, step, whole, Parent, JoinedLen, Joins, TrimsEnd, Trims};
 
 // What has been read of a path's segment: nothing, `.`, `..`, a segment that may end here, or one that breaks the rule.
 pub enum Segment {

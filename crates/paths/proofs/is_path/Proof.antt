@@ -1,13 +1,13 @@
 use borrow.Author.Needs.{needs}
-use Rattle.scan.proofs.paths.is_path.Statement.{statement}
-use Rattle.scan.proofs.paths.is_path.Tie as tie
-use Rattle.scan.proofs.paths.is_path.Reads as reads
-use Rattle.scan.proofs.paths.is_path.Lts as lts
-use Rattle.scan.proofs.paths.step.Reads as step-reads
-use Rattle.scan.proofs.paths.whole.Reads as whole-reads
+use Rattle.paths.proofs.is_path.Statement.{statement}
+use Rattle.paths.proofs.is_path.Tie as tie
+use Rattle.paths.proofs.is_path.Reads as reads
+use Rattle.paths.proofs.is_path.Lts as lts
+use Rattle.paths.proofs.step.Reads as step-reads
+use Rattle.paths.proofs.whole.Reads as whole-reads
 use Prim.Native.Nat.{_-_}
 use lib.ListN.{length}
-use Rattle.scan.specs.Paths.{path-long, Reading, reading-start, reading-on, reading-end}
+use Rattle.paths.specs.Paths.{path-long, Reading, reading-start, reading-on, reading-end}
 
 abbrev Inv-loop : tie.InvT-loop
 Inv-loop p s₀ i₀ s i = Reading p i s

@@ -1,11 +1,11 @@
 use borrow.Author.Needs.{needs}
-use Rattle.scan.proofs.paths.is_folder.Statement.{statement}
-use Rattle.scan.proofs.paths.is_folder.Tie as tie
-use Rattle.scan.proofs.paths.is_folder.Reads as reads
-use Rattle.scan.proofs.paths.is_folder.Lts as lts
-use Rattle.scan.proofs.paths.is_path.Reads as is-path-reads
+use Rattle.paths.proofs.is_folder.Statement.{statement}
+use Rattle.paths.proofs.is_folder.Tie as tie
+use Rattle.paths.proofs.is_folder.Reads as reads
+use Rattle.paths.proofs.is_folder.Lts as lts
+use Rattle.paths.proofs.is_path.Reads as is-path-reads
 use mathlib.Core.Path.{_≡_, refl, sym, ap, _∙_}
-use Rattle.scan.specs.Paths.{folder-empty, folder-path}
+use Rattle.paths.specs.Paths.{folder-empty, folder-path}
 
 returns : tie.Need-returns
 returns c = folder-empty _ (search needs)

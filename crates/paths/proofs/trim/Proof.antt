@@ -1,12 +1,12 @@
 use borrow.Author.Needs.{needs}
-use Rattle.scan.proofs.paths.trim.Statement.{statement}
-use Rattle.scan.proofs.paths.trim.Tie as tie
-use Rattle.scan.proofs.paths.trim.Reads as reads
-use Rattle.scan.proofs.paths.trim.Lts as lts
-use Rattle.scan.proofs.paths.trim_end.Reads as trim-end-reads
+use Rattle.paths.proofs.trim.Statement.{statement}
+use Rattle.paths.proofs.trim.Tie as tie
+use Rattle.paths.proofs.trim.Reads as reads
+use Rattle.paths.proofs.trim.Lts as lts
+use Rattle.paths.proofs.trim_end.Reads as trim-end-reads
 use Rattle.scan.proofs.span.Reads as span-reads
 use native.Mathlib.Omega.{arith}
-use Rattle.scan.specs.Paths.{trims}
+use Rattle.paths.specs.Paths.{trims}
 
 sub-part : tie.Need-sub-part
 sub-part c = search needs

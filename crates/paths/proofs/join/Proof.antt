@@ -1,16 +1,16 @@
 use borrow.Author.Needs.{needs}
-use Rattle.scan.proofs.paths.join.Statement.{statement}
-use Rattle.scan.proofs.paths.join.Tie as tie
-use Rattle.scan.proofs.paths.join.Reads as reads
-use Rattle.scan.proofs.paths.join.Lts as lts
-use Rattle.scan.proofs.paths.joined_byte.Reads as joined-byte-reads
-use Rattle.scan.proofs.paths.joined_len.Reads as joined-len-reads
+use Rattle.paths.proofs.join.Statement.{statement}
+use Rattle.paths.proofs.join.Tie as tie
+use Rattle.paths.proofs.join.Reads as reads
+use Rattle.paths.proofs.join.Lts as lts
+use Rattle.paths.proofs.joined_byte.Reads as joined-byte-reads
+use Rattle.paths.proofs.joined_len.Reads as joined-len-reads
 use mathlib.Core.Path.{_≡_, sym, refl}
 use Prim.Native.Nat.{_-_, _<_, _≤_}
 use native.Mathlib.Omega.{arith}
 use lib.ListN.{length}
 use Rattle.rules.specs.Bytes.{join}
-use Rattle.scan.specs.Paths.{Copied, copied-start, copied-on, joins-over, joins-all}
+use Rattle.paths.specs.Paths.{Copied, copied-start, copied-on, joins-over, joins-all}
 
 abbrev Inv-loop : tie.InvT-loop
 Inv-loop folder path bytes₀ len i₀ bytes i = Copied (join folder path) bytes i len

@@ -1,12 +1,12 @@
 use borrow.Author.Needs.{needs}
-use Rattle.scan.proofs.paths.parent.Statement.{statement}
-use Rattle.scan.proofs.paths.parent.Tie as tie
-use Rattle.scan.proofs.paths.parent.Reads as reads
-use Rattle.scan.proofs.paths.parent.Lts as lts
+use Rattle.paths.proofs.parent.Statement.{statement}
+use Rattle.paths.proofs.parent.Tie as tie
+use Rattle.paths.proofs.parent.Reads as reads
+use Rattle.paths.proofs.parent.Lts as lts
 use Prim.Native.Nat.{_-_}
 use mathlib.Core.Logic.{⊎-elim}
 use lib.ListN.{length}
-use Rattle.scan.specs.Paths.{Climbing, climbing-start, climbing-slash, climbing-other, climbing-end}
+use Rattle.paths.specs.Paths.{Climbing, climbing-start, climbing-slash, climbing-other, climbing-end}
 
 abbrev Inv-loop : tie.InvT-loop
 Inv-loop p last₀ i₀ last i = Climbing p i last

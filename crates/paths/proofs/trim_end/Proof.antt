@@ -1,15 +1,15 @@
 use borrow.Author.Needs.{needs}
-use Rattle.scan.proofs.paths.trim_end.Statement.{statement}
-use Rattle.scan.proofs.paths.trim_end.Tie as tie
-use Rattle.scan.proofs.paths.trim_end.Reads as reads
-use Rattle.scan.proofs.paths.trim_end.Lts as lts
+use Rattle.paths.proofs.trim_end.Statement.{statement}
+use Rattle.paths.proofs.trim_end.Tie as tie
+use Rattle.paths.proofs.trim_end.Reads as reads
+use Rattle.paths.proofs.trim_end.Lts as lts
 use Rattle.scan.proofs.member.Reads as member-reads
 use Prim.Native.Nat.{_-_}
 use mathlib.Core.Path.{_≡_, refl, sym, ap, _∙_}
 use mathlib.Core.Logic.{⊎-elim}
 use borrow.Author.Tests.{not-true, not-false}
 use lib.ListN.{length}
-use Rattle.scan.specs.Paths.{Trimming, trimming-start, trimming-blank, trimming-more, trimming-end}
+use Rattle.paths.specs.Paths.{Trimming, trimming-start, trimming-blank, trimming-more, trimming-end}
 
 abbrev Inv-loop : tie.InvT-loop
 Inv-loop text end₀ i₀ end i = Trimming text i end

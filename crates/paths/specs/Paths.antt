@@ -12,11 +12,12 @@ use borrow.Author.Tests.{le-leb, lt-leb, eq-eqb, ne-eqb, ltb-true}
 use Prim.Native.Nat.{ℕ, zero, suc, _+_, _-_, _≤_, _<_, min}
 use Rattle.rules.specs.Reader.{the, but, all, empty, prefix, same, bytes, span}
 use Rattle.rules.specs.Bytes.{blank, runByte, prepend, split, isSegment, isPath, isFolder, holds, parent, join, trim, trimEnd}
 use Rattle.scan.specs.Sets.{Spans}
-use Rattle.scan.specs.declared.paths.Joined.{Joined}
-use Rattle.scan.specs.declared.paths.Range.{Range}
-use Rattle.scan.specs.declared.paths.Segment.{Segment}
-use Rattle.scan.specs.declared.paths.Segment.the-variants.{Empty, Dot, Dots, Good, Bad}
+use Rattle.scan.specs.Laws.{drop-take, tail-part, start-length}
+use Rattle.paths.specs.declared.Joined.{Joined}
+use Rattle.paths.specs.declared.Range.{Range}
+use Rattle.paths.specs.declared.Segment.{Segment}
+use Rattle.paths.specs.declared.Segment.the-variants.{Empty, Dot, Dots, Good, Bad}
 
 -- Behind one more `.`; behind another byte of a run; behind `/`.
 abbrev pub dotted : Segment → Segment
@@ -453,19 +454,6 @@ module _ {t : List ℕ} {i n : ℕ} (k : Trimming t i n) (h : i < length t) wher
 pub trimming-end : {t : List ℕ} {i n : ℕ} → Trimming t i n → length t ≤ i → TrimsEnd t n
 unfolding trimEnd empty
 trimming-end {t} {i} {n} k h = record { inside = omega (arith, k .below, k .inside); text = sym (k .rest ∙ rw (drop-of-length-le t h) refl) }
-
-pub drop-take : (a n : ℕ) (l : List ℕ) → drop a (take n l) ≡ take (n - a) (drop a l)
-drop-take zero n l = rw sub-zero
-drop-take (suc a) zero l = let z : 0 - suc a ≡ 0 = omega arith in rw z refl
-drop-take (suc a) (suc n) [] = sym (take-nil (suc n - suc a))
-drop-take (suc a) (suc n) (x ∷ xs) = rw suc-sub-suc (drop-take a n xs)
-
-pub tail-part : (t : List ℕ) (a : ℕ) → take (length t - a) (drop a t) ≡ drop a t
-tail-part t a = take-all (length t - a) (drop a t) (omega (arith, length-drop a t))
-
--- A path's start in the array that holds it.
-pub start-length : (n : ℕ) (x : List ℕ) → length x ≡ 255 → n ≤ 255 → n ≡ length (take n x)
-start-length n x e h = sym (length-take-le n x (omega arith))
 
 -- The trimmed part: behind the leading blanks, up to the trailing ones.
 pub trims : (t : List ℕ) (from to a n : ℕ) → from ≤ to → to ≤ length t

@@ -1,10 +1,10 @@
 use borrow.Author.Needs.{needs}
-use Rattle.scan.proofs.paths.joined_byte.Statement.{statement}
-use Rattle.scan.proofs.paths.joined_byte.Tie as tie
-use Rattle.scan.proofs.paths.joined_byte.Reads as reads
-use Rattle.scan.proofs.paths.joined_byte.Lts as lts
+use Rattle.paths.proofs.joined_byte.Statement.{statement}
+use Rattle.paths.proofs.joined_byte.Tie as tie
+use Rattle.paths.proofs.joined_byte.Reads as reads
+use Rattle.paths.proofs.joined_byte.Lts as lts
 use native.Mathlib.Omega.{arith}
-use Rattle.scan.specs.Paths.{joined-empty, joined-folder, joined-slash, joined-path}
+use Rattle.paths.specs.Paths.{joined-empty, joined-folder, joined-slash, joined-path}
 
 shared-slice-read-result : tie.Need-shared-slice-read-result
 shared-slice-read-result c = joined-empty _ _ _ (c .before .before .pre) (c .before .if1 .taken) .0

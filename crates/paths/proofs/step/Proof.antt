@@ -1,15 +1,15 @@
 use borrow.Author.Needs.{needs}
-use Rattle.scan.proofs.paths.step.Statement.{statement}
-use Rattle.scan.proofs.paths.step.Tie as tie
-use Rattle.scan.proofs.paths.step.Reads as reads
-use Rattle.scan.proofs.paths.step.Lts as lts
+use Rattle.paths.proofs.step.Statement.{statement}
+use Rattle.paths.proofs.step.Tie as tie
+use Rattle.paths.proofs.step.Reads as reads
+use Rattle.paths.proofs.step.Lts as lts
 use Rattle.scan.proofs.member.Reads as member-reads
-use Rattle.scan.proofs.paths.dotted.Reads as dotted-reads
-use Rattle.scan.proofs.paths.ended.Reads as ended-reads
-use Rattle.scan.proofs.paths.named.Reads as named-reads
+use Rattle.paths.proofs.dotted.Reads as dotted-reads
+use Rattle.paths.proofs.ended.Reads as ended-reads
+use Rattle.paths.proofs.named.Reads as named-reads
 use mathlib.Core.Path.{_≡_, refl, sym, ap, _∙_}
 use borrow.Author.Tests.{not-true, not-false}
-use Rattle.scan.specs.Paths.{step-slash, step-no, step-dot, step-name}
+use Rattle.paths.specs.Paths.{step-slash, step-no, step-dot, step-name}
 
 ended-requires : tie.Need-ended-requires
 ended-requires c κs = search needs
