@@ -2,10 +2,9 @@
 use mathlib.Core.Path.{_≡_, refl, sym, ap, _∙_}
 use mathlib.Core.List.{List, [], _∷_, _++_, append-assoc}
 use Prim.Native.Nat.{ℕ, suc, _+_, _-_, _≤_, _<_}
-use native.Mathlib.Numerals.{add-one}
 use native.Mathlib.Omega.{arith}
-use lib.ListN.{length, take, drop, getD, set, length-append, length-drop, length-set, take-append-drop}
-use lib.Seq.{sets, sets-eq, length-sets, length-take-le, drop-set-lt, take-append-le, take-append-add, take-take, drop-append-add, drop-drop, take-at}
+use lib.ListN.{length, take, drop, set, length-append, take-append-drop}
+use lib.Seq.{sets, sets-eq, length-sets, length-take-le, drop-set-lt, take-append-le, take-take, drop-append-add, drop-drop, take-at}
 use Rattle.scan.specs.Sets.{part}
 use Rattle.scan.specs.Laws.{cut-at}
 use Rattle.scan.specs.Laws.{drop-take}

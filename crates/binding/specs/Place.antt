@@ -1,15 +1,15 @@
 -- Where a name is bound.
-use mathlib.Core.Path.{_≡_, refl, sym, ap, subst, _∙_}
-use mathlib.Core.Bool.{Bool, true, false, not, true≢false}
-use mathlib.Core.List.{List, [], _∷_, _++_, append-assoc, append-nil}
+use mathlib.Core.Path.{_≡_, refl, sym, ap, _∙_}
+use mathlib.Core.Bool.{true, false}
+use mathlib.Core.List.{List, _∷_, _++_, append-assoc, append-nil}
 use Prim.Native.Nat.{ℕ, zero, suc, _+_, _-_, _≤_, _<_}
 use native.Mathlib.Omega.{arith}
 use lib.Dec.{eqb}
-use lib.ListN.{length, take, drop, getD, length-append, length-take, length-drop, drop-of-length-le}
+use lib.ListN.{length, take, drop, length-append, drop-of-length-le}
 use lib.Seq.{take-append-seam, take-add}
 use Rattle.scan.specs.Sets.{part}
 use Rattle.rules.specs.Bytes.{less}
-use Rattle.rules.specs.Sheet.{Value, Records, end, rec, encode, count, fieldBytes, fieldMask, valueBytes, valueMask, set}
+use Rattle.rules.specs.Sheet.{Value, Records, end, rec, encode, fieldBytes, fieldMask, valueBytes, valueMask, set}
 use Rattle.sheet.specs.Parts.{Part, part-all, part-split, part-slice}
 use Rattle.sheet.specs.Items.{At, join, encode-join, join-one}
 use Rattle.sheet.specs.Order.{orderOf, order-less, order-three}

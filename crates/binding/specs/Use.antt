@@ -1,27 +1,21 @@
 -- For callers: what a binding leaves is the bytes of good records.
-use mathlib.Core.Path.{_≡_, refl, sym, ap, _∙_}
-use mathlib.Core.Bool.{Bool, true, false, _&&_}
-use mathlib.Core.List.{List, [], _∷_}
-use mathlib.Core.Option.{Option, some}
-use Prim.Native.Nat.{ℕ, zero, suc, _≤_, _<_}
+use mathlib.Core.Path.{_≡_, sym, ap, _∙_}
+use mathlib.Core.Bool.{true}
+use mathlib.Core.List.{List}
+use Prim.Native.Nat.{ℕ, _≤_, _<_}
 use native.Mathlib.Omega.{arith}
-use lib.Dec.{ltb}
-use lib.ListN.{length, take, getD}
+use lib.ListN.{length, take}
 use lib.Seq.{length-take-le}
 use borrow.Author.Tests.{le-leb}
 use Rattle.rules.specs.Reader.{all}
 use Rattle.rules.specs.Bytes.{word}
-use Rattle.rules.specs.Sheet.{Value, text, nothing, dictionary, Records, encode, sheetLength, goodRecords, goodValue, sheetOf, set}
+use Rattle.rules.specs.Sheet.{Value, Records, encode, sheetLength, goodRecords, goodValue, set}
 use Rattle.rules.specs.Run.{Did}
 use Rattle.buffers.specs.Emits.{guard, guard-yes}
-use Rattle.rules.specs.Laws.Bool.{and-i, ltb-true, isSome, true-some}
-use Rattle.rules.specs.Laws.Sheet.{sheet-good, sheet-canonical, set-good}
-use Rattle.sheet.specs.Find.{IsSheet, Gives}
-use Rattle.sheet.specs.declared.lookup.Found.{Found}
-use Rattle.sheet.specs.declared.lookup.Found.the-variants.{Missing, None, Text, Dictionary}
+use Rattle.rules.specs.Laws.Sheet.{set-good}
+use Rattle.sheet.specs.Find.{IsSheet}
 use Rattle.sheet.specs.Find.{HasRecords}
-use Rattle.binding.specs.Write.{Bindable, BindsTo, Leaves}
-use Rattle.binding.specs.declared.Bound.{Bound}
+use Rattle.binding.specs.Write.{BindsTo, Leaves}
 use Rattle.binding.specs.declared.Bound.the-variants.{Over, Length}
 
 -- A sheet can be bound in.

@@ -1,17 +1,15 @@
 -- Writing a record into a sheet's buffer.
-use mathlib.Core.Path.{_≡_, refl, sym, ap, subst, _∙_}
+use mathlib.Core.Path.{_≡_, refl, sym, ap, _∙_}
 use mathlib.Core.Bool.{Bool, true, false, cond, _||_}
 use mathlib.Core.List.{List, [], _∷_, _++_, append-assoc, append-nil}
-use mathlib.Core.Logic.{⊎-elim, _⊎_, inl, inr}
-use mathlib.Core.Option.{Option, none, some}
-use Prim.Native.Nat.{ℕ, zero, suc, _+_, _-_, _*_, _/_, _%_, _≤_, _<_}
+use mathlib.Core.Option.{some}
+use Prim.Native.Nat.{ℕ, zero, suc, _+_, _-_, _/_, _%_, _≤_, _<_}
 use native.Mathlib.Numerals.{add-one}
-use native.Mathlib.Nat.{add-zero, le-refl}
 use native.Mathlib.Omega.{arith}
 use lib.Bits.{bitAnd, bitOr}
 use lib.Dec.{eqb, ltb}
-use lib.ListN.{set as put, length, take, drop, getD, length-append, length-take, length-drop, drop-of-length-le}
-use lib.Seq.{drop-cons, sets, sets-eq, take-at, drop-at, take-append-add, take-all, take-take, take-append-le, length-sets, length-take-le}
+use lib.ListN.{set as put, length, take, drop, getD, length-append, length-drop, drop-of-length-le}
+use lib.Seq.{drop-cons, sets, take-take, length-sets, length-take-le}
 use borrow.Author.Tests.{eq-eqb, ne-eqb, ltb-true, ltb-false}
 use Rattle.scan.specs.Sets.{part}
 use Rattle.scan.specs.Laws.{drop-take}
@@ -20,7 +18,7 @@ use Rattle.rules.specs.Bytes.{less}
 use Rattle.rules.specs.Laws.Bool.{or-elim, or-false-l, or-false-r}
 use Rattle.rules.specs.Laws.Sheet.{count-le}
 use Rattle.rules.specs.Sheet.{Value, text, nothing, dictionary, Records, end, rec, encode, count, word16Bytes, fieldBytes, fieldMask, valueBytes, valueMask, set}
-use Rattle.sheet.specs.Parts.{Part, part-slice, length-slice}
+use Rattle.sheet.specs.Parts.{part-slice, length-slice}
 use Rattle.binding.specs.Moves.{slice-take, slice-above, take-stored}
 use Rattle.sheet.specs.Order.{underscoreIf, underscoredIf, underscoredIf-length, underscoredIf-getD}
 use Rattle.sheet.specs.Find.{Gives}

@@ -1,13 +1,13 @@
 -- Runs that copy: steps that each copy one byte write the bytes as one piece.
 use mathlib.Core.Path.{_≡_, refl, sym, ap, _∙_}
 use mathlib.Core.List.{List, [], _∷_}
-use mathlib.Core.Bool.{Bool, true}
+use mathlib.Core.Bool.{true}
 use Prim.Native.Nat.{ℕ, zero, suc, _+_, _-_, _≤_, _<_}
 use native.Mathlib.Omega.{arith}
 use lib.Dec.{leb}
 use lib.ListN.{length, take, drop, getD, length-drop}
 use lib.Seq.{drop-drop, getD-drop}
-use Rattle.rules.specs.Run.{Emit, ok, put, andThen, unrefused, Did, Step, Trace, step, run, allWhole, final, write}
+use Rattle.rules.specs.Run.{ok, put, andThen, unrefused, Did, Step, Trace, step, run, allWhole, final, write}
 use Rattle.rules.specs.Laws.Enough.{run-step}
 use Rattle.scan.specs.Sets.{part}
 use Rattle.buffers.specs.Emits.{write-none, write-same, write-join, guarded, guard-yes}

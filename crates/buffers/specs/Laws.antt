@@ -1,6 +1,6 @@
 -- Laws of the writer: texts put one after the other, and when all has fitted.
 use mathlib.Core.Path.{_≡_, refl, sym, ap, _∙_}
-use mathlib.Core.List.{List, [], _∷_, _++_, append-assoc}
+use mathlib.Core.List.{List, [], _∷_, _++_}
 use mathlib.Core.Bool.{Bool, true, false, _&&_, _||_, true≢false}
 use Prim.Native.Nat.{ℕ, zero, suc, _+_, _-_, _≤_, _<_, min}
 use native.Mathlib.Omega.{arith}
@@ -8,10 +8,10 @@ use native.Mathlib.Numerals.{add-one}
 use native.Mathlib.Nat.{add-zero, sub-zero, suc-sub-suc}
 use native.Mathlib.Decide.{decLe}
 use lib.Dec.{leb, ltb, eqb, eqb·suc-zero}
-use lib.ListN.{length, take, drop, getD, set, length-append, length-set, length-drop, take-append-drop, drop-of-length-le, replicate}
-use lib.Seq.{sets, sets-eq, set-out, set-comm, take-set-le, length-sets, length-take-le, drop-cons, take-suc, take-all, take-append-seam}
+use lib.ListN.{length, take, drop, getD, set, length-drop, take-append-drop}
+use lib.Seq.{sets, sets-eq, set-out, set-comm, take-set-le, length-sets, length-take-le, take-suc, take-all, take-append-seam}
 use borrow.Author.Tests.{lt-ltb, le-ltb, le-leb, lt-leb}
-use Rattle.rules.specs.Reader.{all, span}
+use Rattle.rules.specs.Reader.{all}
 use Rattle.rules.specs.Bytes.{blank}
 use Rattle.rules.specs.Calls.{zeros, padded}
 use Rattle.rules.specs.Laws.Bool.{and-l, and-r, and-i, or-l, or-false-l, or-false-r, true-leb, true-ltb, false-ltb, false-eqb}

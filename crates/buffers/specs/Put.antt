@@ -2,7 +2,7 @@
 use mathlib.Core.Path.{_≡_}
 use mathlib.Core.List.{List, [], _∷_}
 use mathlib.Core.Bool.{Bool, true, false, _&&_}
-use Prim.Native.Nat.{ℕ, suc, _+_, _^_, _≤_, _<_}
+use Prim.Native.Nat.{ℕ, _+_, _^_, _≤_, _<_}
 use lib.Dec.{leb, ltb}
 use lib.Seq.{sets}
 use Rattle.rules.specs.Bytes.{blank}

@@ -1,19 +1,18 @@
 -- Laws of the lookup calls.
 use mathlib.Core.Path.{_≡_, refl, sym, ap, _∙_}
-use mathlib.Core.List.{List, [], _∷_, _++_}
-use mathlib.Core.Bool.{Bool, true, false, true≢false}
-use mathlib.Core.Option.{Option, none, some}
+use mathlib.Core.List.{List}
+use mathlib.Core.Bool.{true, false}
+use mathlib.Core.Option.{Option, none}
 use Prim.Native.Nat.{ℕ, _-_, _≤_, _<_}
 use native.Mathlib.Omega.{arith}
-use lib.Dec.{leb}
 use lib.ListN.{length, take, drop, getD}
 use lib.Seq.{sets, length-sets}
 use borrow.Author.Tests.{le-leb, lt-leb}
-use Rattle.rules.specs.Answer.{Answer, accepted, _>>=_, _>>_, check, orRefuse}
+use Rattle.rules.specs.Answer.{accepted, _>>=_, _>>_, check, orRefuse}
 use Rattle.rules.specs.Reader.{all}
 use Rattle.rules.specs.Bytes.{ascii, word}
-use Rattle.rules.specs.Sheet.{Value, Records, encode, goodRecords, sheetOf, resolve, resolveString, textOf, kindOf}
-use Rattle.rules.specs.Calls.{zeros, padded, Kind, kindAnswer, resolveResult, resolveOf, Output, outputAnswer, resolveStringResult, resolveStringOf}
+use Rattle.rules.specs.Sheet.{Value, Records, encode, goodRecords, sheetOf, resolve, resolveString, textOf}
+use Rattle.rules.specs.Calls.{zeros, padded, kindAnswer, resolveResult, resolveOf, Output, outputAnswer, resolveStringResult, resolveStringOf}
 use Rattle.rules.specs.Laws.Bool.{isSome, false-some}
 use Rattle.sheet.specs.declared.lookup.Found.{Found}
 use Rattle.sheet.specs.declared.lookup.Found.the-variants.{Missing, None, Text, Dictionary}

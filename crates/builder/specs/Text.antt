@@ -4,10 +4,10 @@ use mathlib.Core.List.{List}
 use Prim.Native.Nat.{ℕ}
 use lib.Dec.{leb}
 use lib.ListN.{length}
-use Rattle.rules.specs.Answer.{Answer, accepted, check, _>>_}
+use Rattle.rules.specs.Answer.{accepted, check, _>>_}
 use Rattle.sheet.specs.declared.lookup.Found.{Found}
 use Rattle.sheet.specs.declared.lookup.Found.the-variants.{Missing, None, Text, Dictionary}
-use Rattle.rules.specs.Calls.{zeros, Output, outputAnswer}
+use Rattle.rules.specs.Calls.{zeros, outputAnswer}
 
 -- Where a found text stands; an empty part where there is none.
 unfoldable pub TextAt : Found → ℕ → ℕ → Type 0

@@ -8,9 +8,9 @@ ghost use Rattle.rules.specs.Layout.{bit, field, fieldIf, byte, word16};
 ghost use Rattle.rules.specs.Bytes.{holds};
 ghost use Rattle.rules.specs.Bundle.{entry};
 ghost use Rattle.bundle_entries.specs.Entries.{Body, FieldAt, NameAt, HeadAt, PathOf, lengthOf, noHead, entryFields};
-use scan::Set;
 use paths::Joined;
 use paths::join;
+use scan::Set;
 
 // The bits of a map byte.
 const FOLDER: u8 = 1;

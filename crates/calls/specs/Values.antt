@@ -1,9 +1,8 @@
 -- The texts that a call takes.
-use mathlib.Core.Path.{_≡_, refl, sym, ap, _∙_}
-use mathlib.Core.List.{List, [], _∷_, _++_}
+use mathlib.Core.Path.{_≡_, refl, ap, _∙_}
+use mathlib.Core.List.{List, [], _++_}
 use mathlib.Core.Bool.{Bool, true, false}
 use Prim.Native.Nat.{ℕ, zero, suc, _+_, _-_, _≤_}
-use native.Mathlib.Omega.{arith}
 use lib.ListN.{length, take, drop}
 use Rattle.rules.specs.Reader.{Reader, ret, ifR, _>>=_, _>>_, the, either, span, sees, skip, loop, rounds, Turn, again, stop}
 use Rattle.rules.specs.Bytes.{lineBlank, letter, runByte, underscored}

@@ -12,7 +12,7 @@ use Rattle.rules.specs.Reader.{all}
 use Rattle.rules.specs.Bytes.{ascii, parent}
 use Rattle.rules.specs.Bundle.{Entry, bundleOf}
 use Rattle.rules.specs.Files.{view, fetch}
-use Rattle.rules.specs.Sheet.{Records, encode, sheetLength}
+use Rattle.rules.specs.Sheet.{Records, sheetLength}
 use Rattle.rules.specs.Imports.{fileSheet, importedSheet, definitions}
 use Rattle.rules.specs.Calls.{limit, zeros, padded, definedAnswer, parseDefinitionsResult}
 use Rattle.rules.specs.Laws.Bool.{isSome, true-some, false-some}

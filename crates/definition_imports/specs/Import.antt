@@ -1,6 +1,6 @@
 -- The imports of a file of definitions, up to the file that one names.
 use mathlib.Core.Path.{_≡_, refl, sym, ap, _∙_}
-use mathlib.Core.List.{List, [], _∷_, _++_}
+use mathlib.Core.List.{List, [], _∷_}
 use mathlib.Core.Bool.{Bool, true, false, _&&_, true≢false}
 use Prim.Native.Nat.{ℕ, suc, _+_, _-_, _≤_, _<_}
 use native.Mathlib.Omega.{arith}
@@ -13,7 +13,7 @@ use Rattle.rules.specs.Reader.{all, empty, but, either, span}
 use Rattle.rules.specs.Laws.Bool.{and-l}
 use Rattle.rules.specs.Bytes.{ascii, blank, isPath, join, parent}
 use Rattle.rules.specs.Bundle.{Entry}
-use Rattle.rules.specs.Files.{View, folder, file, view}
+use Rattle.rules.specs.Files.{View, view}
 use Rattle.rules.specs.Sheet.{Records}
 use Rattle.rules.specs.Strings.{literal}
 use Rattle.rules.specs.Definitions.{Names, names, bound, importStep}

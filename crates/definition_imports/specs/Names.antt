@@ -6,13 +6,12 @@ use mathlib.Core.Option.{Option, none, some}
 use Prim.Native.Nat.{ℕ, _+_, _≤_, _<_}
 use native.Mathlib.Omega.{arith}
 use lib.ListN.{length, take, drop-of-length-le}
-use lib.Seq.{length-take-le}
 use borrow.Author.Tests.{le-leb, lt-leb}
 use Rattle.scan.specs.Sets.{part}
 use Rattle.rules.specs.Answer.{Answer, refused, accepted, _>>=_, _>>_, check}
 use Rattle.rules.specs.Reader.{all}
 use Rattle.rules.specs.Bytes.{word}
-use Rattle.rules.specs.Sheet.{Value, nothing, Records, end, rec, encode, sheetLength, goodValue, goodRecords, get, set}
+use Rattle.rules.specs.Sheet.{Value, Records, end, rec, encode, sheetLength, goodValue, goodRecords, get, set}
 use Rattle.rules.specs.Definitions.{Names, star, listed, listedMore}
 use Rattle.rules.specs.Imports.{bindOne, bindIf, bindAll, bindListed, bindNames}
 use Rattle.rules.specs.Laws.Answer.{bind-accepted}

@@ -1,12 +1,12 @@
 // The imports of a file of definitions (document 01, section 7), up to the file that one names.
 use bundle::Found;
-use scan::Set;
 use paths::Joined;
+use scan::Set;
 ghost use mathlib.Core.Path.{_≡_};
 ghost use mathlib.Core.Bool.{true};
 ghost use mathlib.Core.List.{List};
 ghost use Prim.Native.Nat.{ℕ, _+_, _≤_};
-ghost use lib.ListN.{length, take, drop};
+ghost use lib.ListN.{length};
 ghost use Rattle.rules.specs.Bytes.{join};
 ghost use Rattle.rules.specs.Bundle.{bundleOf};
 ghost use Rattle.rules.specs.Files.{view};

@@ -1,11 +1,11 @@
 -- The steps of a file of definitions.
 use mathlib.Core.Path.{_≡_, refl, sym, ap, subst, _∙_}
-use mathlib.Core.List.{List, [], _∷_, _++_}
-use mathlib.Core.Bool.{true, false, true≢false, _&&_}
-use Prim.Native.Nat.{ℕ, _+_, _≤_, _<_}
+use mathlib.Core.List.{List, _++_}
+use mathlib.Core.Bool.{true, false, true≢false}
+use Prim.Native.Nat.{ℕ, _+_, _≤_}
 use native.Mathlib.Omega.{arith}
 use lib.ListN.{length, take, drop, take-append-drop}
-use borrow.Author.Tests.{le-leb, lt-leb}
+use borrow.Author.Tests.{lt-leb}
 use Rattle.rules.specs.Answer.{Answer, refused, accepted}
 use Rattle.rules.specs.Reader.{ret, ifR, _>>=_, _>>_, bytes, either, all, mark, prefix}
 use Rattle.rules.specs.Run.{ok, fail, Did}
@@ -17,7 +17,7 @@ use Rattle.rules.specs.Laws.Texts.{all-right}
 use Rattle.rules.specs.Laws.Numbers.{numberedE}
 use Rattle.rules.specs.Laws.Values.{numberedOr, didHas, reads-definition}
 use Rattle.scan.specs.Sets.{part, Spans}
-use Rattle.buffers.specs.Emits.{guard, guard-yes, guard-no}
+use Rattle.buffers.specs.Emits.{guard, guard-no}
 use Rattle.sheet.specs.Order.{underscoredIf}
 use Rattle.binding.specs.Place.{Between}
 use Rattle.binding.specs.Mark.{Mark, Marked, mark-of}

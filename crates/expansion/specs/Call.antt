@@ -9,14 +9,14 @@ use lib.ListN.{length, take, drop}
 use lib.Seq.{drop-drop, take-append-add}
 use Rattle.rules.specs.Reader.{Reader, prefix, skip, ret, ifR, _>>=_, _>>_}
 use Rattle.rules.specs.Bytes.{lineBlank}
-use Rattle.rules.specs.Run.{Emit, ok, put, fail, Did, write}
+use Rattle.rules.specs.Run.{ok, put, Did, write}
 use Rattle.rules.specs.Sheet.{Records}
-use Rattle.rules.specs.Expansion.{Call, handsBack, refuses, outputs, callDid, calling, callStep, writes}
+use Rattle.rules.specs.Expansion.{Call, callDid, calling, callStep, writes}
 use Rattle.scan.specs.Sets.{part, Spans, Sees, Starts, byteIs}
 use Rattle.scan.specs.Laws.{sees-the, not-end, skips-at, prefix-split}
 use Rattle.sheet.specs.Find.{IsSheet}
 use Rattle.buffers.specs.Put.{Put}
-use Rattle.buffers.specs.Emits.{Emits, emits-put, emits-fills, emits-fail}
+use Rattle.buffers.specs.Emits.{Emits, emits-put, emits-fills}
 use Rattle.calls.specs.declared.Outcome.the-variants.{HandedBack, Refused, Output}
 use Rattle.calls.specs.declared.Called.{Called}
 use Rattle.calls.specs.Called.{Says, Calls}

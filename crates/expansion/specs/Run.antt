@@ -2,15 +2,15 @@
 use mathlib.Core.Path.{_≡_, refl, sym, ap, subst, _∙_}
 use mathlib.Core.List.{List, [], _∷_}
 use mathlib.Core.Bool.{Bool, true, false, not, _&&_, true≢false, and-true}
-use Prim.Native.Nat.{ℕ, suc, _+_, _-_, _≤_, _<_}
+use Prim.Native.Nat.{ℕ, suc, _-_, _≤_, _<_}
 use native.Mathlib.Omega.{arith}
 use lib.Dec.{eqb}
 use lib.ListN.{length, drop, getD, drop-of-length-le}
 use lib.Seq.{drop-cons}
 use borrow.Author.Tests.{le-leb, lt-leb, ne-eqb, eq-eqb, eqb-true}
 use Rattle.rules.specs.Answer.{refused}
-use Rattle.rules.specs.Reader.{bytes, prefix, all, mark, ifR, _>>=_}
-use Rattle.rules.specs.Run.{Emit, ok, put, andThen, unrefused, Did, Trace, step, run, allWhole, final, write}
+use Rattle.rules.specs.Reader.{bytes, prefix, mark, ifR, _>>=_}
+use Rattle.rules.specs.Run.{Emit, ok, put, andThen, unrefused, Did, Trace, run, allWhole, final, write}
 use Rattle.rules.specs.Files.{View}
 use Rattle.rules.specs.Sheet.{Records, sheetLength}
 use Rattle.rules.specs.Expansion.{writes, copyStep, expansionStep, expansion}

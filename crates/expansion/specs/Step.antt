@@ -1,11 +1,11 @@
 -- One step at a `#`.
 use mathlib.Core.Path.{_≡_, refl, sym, ap, subst, _∙_}
-use mathlib.Core.List.{List, [], _∷_}
+use mathlib.Core.List.{List}
 use mathlib.Core.Bool.{Bool, true, false}
 use Prim.Native.Nat.{ℕ, _+_, _≤_, _<_}
 use native.Mathlib.Omega.{arith}
 use lib.ListN.{length, take, drop}
-use borrow.Author.Tests.{le-leb, lt-leb}
+use borrow.Author.Tests.{lt-leb}
 use Rattle.rules.specs.Reader.{bytes, ifR, _>>=_}
 use Rattle.rules.specs.Run.{ok, Did, write}
 use Rattle.rules.specs.Files.{View}
@@ -13,7 +13,7 @@ use Rattle.rules.specs.Sheet.{Records, sheetLength, resolveString}
 use Rattle.rules.specs.Expansion.{binds, writes, importStep, letStep, referenceStep, callStep, raw, link, expansionStep}
 use Rattle.scan.specs.Sets.{Starts}
 use Rattle.scan.specs.Laws.{mark-yes, mark-no}
-use Rattle.buffers.specs.Emits.{Emits, emits-ok, guard, guard-yes, guard-no}
+use Rattle.buffers.specs.Emits.{Emits, emits-ok, guard, guard-no}
 use Rattle.sheet.specs.Find.{IsSheet}
 use Rattle.expansion.specs.declared.WriteStep.{WriteStep}
 use Rattle.let_steps.specs.declared.Let.{Let}

@@ -2,13 +2,13 @@
 use mathlib.Core.Path.{_≡_, refl, sym, ap, _∙_}
 use mathlib.Core.List.{List}
 use mathlib.Core.Bool.{true, false, true≢false}
-use mathlib.Core.Option.{Option, none, some}
+use mathlib.Core.Option.{none, some}
 use Prim.Native.Nat.{ℕ, _-_, _≤_, _<_}
 use native.Mathlib.Omega.{arith}
 use lib.ListN.{length, take, drop}
 use Rattle.rules.specs.Reader.{ret, _>>=_, _>>_, but, either, all}
 use Rattle.rules.specs.Bytes.{ascii, lineBlank, word, nameByte, underscored}
-use Rattle.rules.specs.Sheet.{Value, text, nothing, dictionary, Records, encode, sheetLength, goodValue, goodRecords, resolve, set}
+use Rattle.rules.specs.Sheet.{Value, text, Records, encode, sheetLength, goodRecords, resolve, set}
 use Rattle.rules.specs.Expansion.{binds, importStep, letValue, letStep}
 use Rattle.rules.specs.Laws.Parts.{let-good}
 use Rattle.rules.specs.Laws.Sheet.{set-good}
@@ -23,7 +23,7 @@ use Rattle.binding.specs.Write.{BindsTo, IsThere}
 use Rattle.sheet.specs.Use.{found-there}
 use Rattle.binding.specs.Use.{Holds, bound-bytes, over-long}
 use Rattle.sheet.specs.declared.lookup.Found.{Found}
-use Rattle.sheet.specs.declared.lookup.Found.the-variants.{Missing, None, Text, Dictionary}
+use Rattle.sheet.specs.declared.lookup.Found.the-variants.{Missing}
 use Rattle.binding.specs.declared.Bound.{Bound}
 use Rattle.binding.specs.declared.Bound.the-variants.{Over, Length}
 use Rattle.let_steps.specs.declared.Line.{Line}

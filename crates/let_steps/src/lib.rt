@@ -1,7 +1,7 @@
 // The steps `#import` and `#let` of the expansion (document 01, section 5): each drops its line, and writes nothing. Each reads from behind its mark.
 use binding::Bound;
-use scan::Set;
 use paths::trim;
+use scan::Set;
 use sheet::lookup::Found;
 ghost use mathlib.Core.Path.{_≡_};
 ghost use mathlib.Core.Bool.{true};

@@ -3,17 +3,16 @@ use mathlib.Core.Path.{_≡_, refl, sym, ap, _∙_}
 use mathlib.Core.List.{List, [], _∷_, _++_, append-assoc, append-nil}
 use mathlib.Core.Bool.{Bool, true, false, true≢false, not, _&&_, _||_, and-true, and-false}
 use lib.Dec.{leb, ltb, eqb, eqb·suc-suc}
-use lib.ListN.{length, take, drop, getD, set, length-set, drop-of-length-le, length-append, length-take, length-drop, List·getD-append}
-use native.Mathlib.Nat.{sub-zero, suc-sub-suc}
-use lib.Seq.{length-take-le, take-nil, drop-cons, take-suc, take-all, take-take, take-length, take-suc-set, drop-drop, getD-append-add, getD-append-seam}
+use lib.ListN.{length, take, drop, getD, set, length-set, drop-of-length-le, length-append, length-drop, List·getD-append}
+use lib.Seq.{length-take-le, drop-cons, take-suc, take-all, take-take, take-suc-set, drop-drop, getD-append-add, getD-append-seam}
 use native.Mathlib.Omega.{arith}
 use native.Mathlib.Numerals.{add-one}
 use borrow.Author.Tests.{le-leb, lt-leb, eq-eqb, ne-eqb, ltb-true}
-use Prim.Native.Nat.{ℕ, zero, suc, _+_, _-_, _≤_, _<_, min}
-use Rattle.rules.specs.Reader.{the, but, all, empty, prefix, same, bytes, span}
+use Prim.Native.Nat.{ℕ, suc, _+_, _-_, _≤_, _<_}
+use Rattle.rules.specs.Reader.{the, but, all, empty, prefix, same, bytes}
 use Rattle.rules.specs.Bytes.{blank, runByte, prepend, split, isSegment, isPath, isFolder, holds, parent, join, trim, trimEnd}
 use Rattle.scan.specs.Sets.{Spans}
-use Rattle.scan.specs.Laws.{drop-take, tail-part, start-length}
+use Rattle.scan.specs.Laws.{drop-take, tail-part}
 use Rattle.paths.specs.declared.Joined.{Joined}
 use Rattle.paths.specs.declared.Range.{Range}
 use Rattle.paths.specs.declared.Segment.{Segment}

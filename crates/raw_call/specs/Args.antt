@@ -8,7 +8,7 @@ use lib.Dec.{leb}
 use lib.ListN.{length, drop, getD, length-drop}
 use lib.Seq.{drop-cons, drop-drop}
 use borrow.Author.Tests.{leb-true, leb-false, le-leb, lt-leb, eqb-true, not-true, not-false}
-use Rattle.rules.specs.Reader.{Reader, ret, ifR, _>>=_, _>>_, bytes, the, but, either, empty, same, span, rounds, Turn, again, stop}
+use Rattle.rules.specs.Reader.{Reader, ret, ifR, _>>=_, _>>_, bytes, but, either, empty, same, span, rounds, Turn, again, stop}
 use Rattle.rules.specs.Bytes.{blank, letter, word, runByte}
 use Rattle.rules.specs.Strings.{literal, reference}
 use Rattle.rules.specs.Expansion.{Arguments, stalled, arguments, Round, langValue, blockValue, argumentValue, argumentRound}

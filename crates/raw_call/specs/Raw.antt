@@ -1,12 +1,12 @@
 -- What a raw call writes, and the ways through it.
 use mathlib.Core.Path.{_≡_, refl, sym, ap, _∙_}
-use mathlib.Core.List.{List, [], _∷_, _++_, append-assoc, append-nil}
+use mathlib.Core.List.{List, [], _∷_, _++_, append-assoc}
 use mathlib.Core.Bool.{Bool, true, false, _&&_, true≢false, and-false}
-use Prim.Native.Nat.{ℕ, zero, _+_, _-_, _≤_, _<_, min}
+use Prim.Native.Nat.{ℕ, _+_, _-_, _≤_, _<_}
 use native.Mathlib.Omega.{arith}
 use native.Mathlib.Decide.{decLe}
-use lib.ListN.{length, take, drop, length-append, length-drop, take-append-drop}
-use lib.Seq.{sets, sets-eq, length-sets, length-take-le, take-all, take-append-seam, drop-append-seam, drop-at, take-at}
+use lib.ListN.{length, take, drop, length-append, take-append-drop}
+use lib.Seq.{sets, sets-eq, length-sets, length-take-le, take-append-seam, drop-at}
 use Rattle.rules.specs.Reader.{all, empty, bytes, the, ret, _>>=_, _>>_}
 use Rattle.rules.specs.Bytes.{blank, trimEnd}
 use Rattle.rules.specs.Files.{View}
@@ -15,15 +15,12 @@ use Rattle.rules.specs.Laws.Bool.{and-l, and-r, and-i}
 use Rattle.scan.specs.Sets.{Spans, Sees, Skips, byteIs}
 use Rattle.scan.specs.Laws.{not-empty}
 use Rattle.paths.specs.Paths.{TrimsEnd, trimEnd-cons}
-use Rattle.buffers.specs.Put.{overflow, after, Put, Writer}
-use Rattle.buffers.specs.Laws.{after-split, put-length, put-fits, put-not, put-then, put-writer, put-ended, sets-append, take-sets, sets-clipped}
+use Rattle.buffers.specs.Put.{overflow, Put}
+use Rattle.buffers.specs.Laws.{after-split, put-length, put-fits, put-not, put-then, put-ended, sets-append, take-sets, sets-clipped}
 use Rattle.buffers.specs.Emits.{Fill, Fills, put-fill, put-fills, fill-then}
-use Rattle.calls.specs.declared.Outcome.{Outcome}
 use Rattle.calls.specs.declared.Outcome.the-variants.{HandedBack as Back, Refused as No, Output as Out}
-use Rattle.calls.specs.declared.Called.{Called}
 use Rattle.raw_call.specs.declared.args.Args.{Args}
 use Rattle.calls.specs.declared.values.Value.{Value}
-use Rattle.raw_call.specs.declared.content.CallContent.{CallContent}
 use Rattle.raw_call.specs.declared.content.CallContent.the-variants.{Given, HandedBack, Refused as Bad}
 use Rattle.raw_call.specs.declared.content.ContentRead.{ContentRead}
 use Rattle.calls.specs.Called.{Says, Calls}

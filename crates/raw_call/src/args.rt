@@ -1,5 +1,4 @@
 // The arguments of a raw call: its language, and whether it is a block.
-ghost use mathlib.Core.Path.{_≡_};
 ghost use mathlib.Core.List.{List};
 ghost use Prim.Native.Nat.{ℕ, _≤_};
 ghost use lib.ListN.{length};

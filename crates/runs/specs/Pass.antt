@@ -15,7 +15,7 @@ use Rattle.rules.specs.Bytes.{ascii}
 use Rattle.rules.specs.Bundle.{Entry, bundleOf}
 use Rattle.rules.specs.Files.{view}
 use Rattle.rules.specs.Sheet.{Records}
-use Rattle.rules.specs.Includes.{includeStep, insideFile, includes}
+use Rattle.rules.specs.Includes.{includeStep, insideFile}
 use Rattle.rules.specs.Expansion.{expansion}
 use Rattle.rules.specs.Pass.{expanded, passed, closed}
 use Rattle.rules.specs.Calls.{Setting, limit, zeros, padded, passedAnswer, closedIn, closedOf, passResult, passOf}

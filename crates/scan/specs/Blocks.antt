@@ -1,7 +1,7 @@
 -- Every byte looked at, with no early end: of a whole text, and of a block of n bytes.
 use mathlib.Core.Path.{_≡_, refl, sym, ap, _∙_}
 use mathlib.Core.List.{List, [], _∷_, _++_}
-use mathlib.Core.Bool.{Bool, true, false, _&&_, and-assoc, and-true}
+use mathlib.Core.Bool.{Bool, true, _&&_, and-assoc, and-true}
 use Prim.Native.Nat.{ℕ, zero, suc, _+_, _≤_, _<_}
 use native.Mathlib.Numerals.{add-one}
 use native.Mathlib.Nat.{add-zero}

@@ -12,10 +12,10 @@ use lib.Dec.{ltb, eqb}
 use lib.ListN.{length, take, drop, getD, drop-of-length-le, length-append, length-drop}
 use lib.Seq.{drop-cons, drop-drop, take-add, take-all, take-nil, take-append-seam, length-take-le}
 use borrow.Author.Tests.{lt-ltb, le-ltb, eq-eqb, ne-eqb, eqb-true, eqb-false, not-true as negated-true, not-false as negated-false}
-use Rattle.rules.specs.Reader.{Reader, the, but, all, empty, span, sees, skip, prefix, same, mark}
+use Rattle.rules.specs.Reader.{the, but, all, empty, span, sees, skip, prefix, same, mark}
 use Rattle.rules.specs.Run.{endsInNewline}
 use Rattle.rules.specs.Laws.Bool.{and-l, and-r, and-i, not-true}
-use Rattle.scan.specs.Sets.{byteIs, part, Spans, Sees, Starts, Stands, Skips}
+use Rattle.scan.specs.Sets.{byteIs, Spans, Sees, Starts, Stands, Skips}
 
 module _ (p : ℕ → Bool) (t : List ℕ) (i : ℕ) where
   pub sees-at : i < length t → sees p (drop i t) ≡ (p (getD t i 0), drop i t)

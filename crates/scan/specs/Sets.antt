@@ -1,11 +1,11 @@
 -- The byte sets, and what the scanning functions promise.
 use mathlib.Core.Path.{_≡_}
-use mathlib.Core.List.{List, [], _∷_}
-use mathlib.Core.Bool.{Bool, true, false, not, _&&_}
+use mathlib.Core.List.{List}
+use mathlib.Core.Bool.{Bool, true, not, _&&_}
 use Prim.Native.Nat.{ℕ, _+_, _-_, _≤_, _<_}
 use lib.Dec.{eqb}
 use lib.ListN.{length, take, drop}
-use Rattle.rules.specs.Reader.{Reader, span, sees, skip, prefix, the, either, but}
+use Rattle.rules.specs.Reader.{span, sees, skip, prefix, the, either, but}
 use Rattle.scan.specs.declared.Set.{Set}
 use Rattle.scan.specs.declared.Set.the-variants.{Blank, LineBlank, Letter, Word, Name, Run, CommaOrBlank, ColonOrBlank, EqualsOrLineBlank, EqualsOrBlank, UnderscoreOrLetter, Space, NotParen, NotQuoteNorBackslash, NotDot, NotSlash}
 use Rattle.rules.specs.Bytes.{ascii, blank, lineBlank, letter, word, nameByte, runByte}

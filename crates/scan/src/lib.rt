@@ -6,7 +6,6 @@ ghost use Rattle.rules.specs.Reader.{all, same};
 ghost use Rattle.rules.specs.Bytes.{ascii};
 ghost use Rattle.scan.specs.Sets.{member, byteIs, notByte, Spans, Sees, Starts, Skips};
 
-
 // The sets of bytes that are scanned for; `member` of specs/Sets says what each holds.
 pub enum Set {
     Blank,

@@ -1,14 +1,12 @@
 -- How many records stand before a place.
-use mathlib.Core.Path.{_≡_, refl, sym, ap, subst, _∙_}
-use mathlib.Core.Bool.{Bool, true, false, not, true≢false}
-use mathlib.Core.List.{List, [], _∷_, _++_, append-assoc, append-nil}
-use Prim.Native.Nat.{ℕ, zero, suc, _+_, _-_, _≤_, _<_}
+use mathlib.Core.Path.{_≡_}
+use mathlib.Core.List.{List}
+use Prim.Native.Nat.{ℕ, suc, _+_, _-_, _≤_, _<_}
 use native.Mathlib.Omega.{arith}
-use lib.ListN.{length, take, drop, getD, length-append, length-take, length-drop, drop-of-length-le}
-use lib.Seq.{take-append-seam, take-add}
-use Rattle.rules.specs.Sheet.{Value, Records, end, rec, encode, count, fieldBytes, fieldMask, valueBytes, valueMask, set}
+use lib.ListN.{length}
+use Rattle.rules.specs.Sheet.{Value, Records, end, rec, encode, count}
 use Rattle.sheet.specs.Parts.{Part, part-all}
-use Rattle.sheet.specs.Items.{At, join, encode-join, join-one}
+use Rattle.sheet.specs.Items.{At}
 
 -- k records stand before i.
 pub record Counting (s : List ℕ) (r : Records) (i k : ℕ) : Type 0 where

@@ -1,12 +1,11 @@
 -- Lookup in the bytes of a sheet: what a lookup answers, and a walk over a level.
 use mathlib.Core.Path.{_≡_, refl, sym, ap, subst, _∙_}
 use mathlib.Core.Bool.{Bool, true, false, true≢false}
-use mathlib.Core.List.{List, [], _∷_, _++_}
+use mathlib.Core.List.{List, []}
 use mathlib.Core.Option.{Option, none, some}
-use Prim.Native.Nat.{ℕ, zero, suc, _+_, _-_, _≤_, _<_}
+use Prim.Native.Nat.{ℕ, _+_, _-_, _≤_, _<_}
 use native.Mathlib.Omega.{arith}
-use lib.Dec.{eqb}
-use lib.ListN.{length, take, drop, getD}
+use lib.ListN.{length}
 use Rattle.scan.specs.Sets.{part}
 use Rattle.rules.specs.Reader.{same}
 use Rattle.rules.specs.Bytes.{word, less}
@@ -14,7 +13,7 @@ use Rattle.rules.specs.Sheet.{Value, text, nothing, dictionary, Records, end, r
 use Rattle.rules.specs.Laws.Sheet.{good-parts, less-trans}
 use Rattle.sheet.specs.Parts.{Part, part-split, part-slice}
 use Rattle.sheet.specs.Heads.{shapeKind, shapeText}
-use Rattle.sheet.specs.Items.{At, Describes, Holding, Has, lead, inner, join, encode-join}
+use Rattle.sheet.specs.Items.{At, Describes, Holding, Has, lead, inner, encode-join}
 use Rattle.sheet.specs.Order.{orderOf, order-less, order-yes, order-no}
 use Rattle.sheet.specs.declared.head.Item.{Item}
 use Rattle.sheet.specs.declared.lookup.Found.{Found}

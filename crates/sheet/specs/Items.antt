@@ -1,17 +1,15 @@
 -- The records of a tree in the bytes of a sheet. Assumes nothing.
 use mathlib.Core.Path.{_≡_, refl, sym, ap, _∙_}
-use mathlib.Core.Bool.{Bool, true, false, not}
 use mathlib.Core.List.{List, [], _∷_, _++_, append-assoc}
 use mathlib.Core.Option.{Option, none, some}
-use Prim.Native.Nat.{ℕ, zero, suc, _+_, _-_, _/_, _≤_, _<_}
+use Prim.Native.Nat.{ℕ, _+_, _-_, _/_, _≤_, _<_}
 use native.Mathlib.Omega.{arith}
-use lib.ListN.{length, take, drop}
-use lib.Seq.{take-append-seam, drop-append-seam}
+use lib.ListN.{length, drop}
 use Rattle.scan.specs.Sets.{part}
 use Rattle.rules.specs.Layout.{bind, _>>=_, _>>_, pure, byte}
 use Rattle.rules.specs.Sheet.{Value, text, nothing, dictionary, Records, end, rec, fieldBytes, fieldMask, count, valueMask, valueBytes, encode}
 use Rattle.rules.specs.Laws.Sheet.{word16-read, field-read, map-byte, name-read, count-le}
-use Rattle.sheet.specs.Parts.{Part, slice-part, part-of, part-cast}
+use Rattle.sheet.specs.Parts.{Part, slice-part, part-of}
 use Rattle.sheet.specs.Heads.{Shape, plain, absent, holding, shapeKind, shapeText, shapeCount, shape, head, IsItem, Reads}
 use Rattle.sheet.specs.declared.head.Head.{Head}
 use Rattle.sheet.specs.declared.head.Head.the-variants.{Bad, Record}

@@ -1,27 +1,24 @@
 -- Lookup of a path with dots.
 use mathlib.Core.Path.{_≡_, refl, sym, ap, subst, _∙_}
-use mathlib.Core.Bool.{Bool, true, false, _&&_, false≢true}
+use mathlib.Core.Bool.{Bool, true, false, false≢true}
 use mathlib.Core.List.{List, [], _∷_, _++_, append-nil}
 use mathlib.Core.Option.{Option, none, some}
-use Prim.Native.Char.{code}
 use Prim.Native.Nat.{ℕ, zero, suc, _+_, _-_, _≤_, _<_}
 use native.Mathlib.Numerals.{add-one}
 use native.Mathlib.Omega.{arith}
-use lib.ListN.{length, take, drop, getD, drop-of-length-le, length-drop, take-append-drop}
-use lib.Seq.{drop-cons, drop-drop, take-suc, getD-drop}
-use borrow.Author.Tests.{eq-eqb, ne-eqb}
+use lib.ListN.{length, drop, getD, drop-of-length-le}
+use lib.Seq.{drop-cons}
 use Rattle.rules.specs.Reader.{all, but, the}
 use Rattle.rules.specs.Bytes.{word, nameByte, split, prepend}
 use Rattle.rules.specs.Layout.{bind}
-use Rattle.rules.specs.Sheet.{Value, text, nothing, dictionary, Records, encode, count, goodRecords, goodValue, get, getFields, getPieces, resolve}
+use Rattle.rules.specs.Sheet.{Value, text, nothing, dictionary, Records, encode, goodRecords, goodValue, get, getFields, getPieces, resolve}
 use Rattle.rules.specs.Laws.Bool.{and-l, and-r}
-use Rattle.rules.specs.Laws.Texts.{all-append}
 use Rattle.rules.specs.Laws.Sheet.{get-good}
 use Rattle.scan.specs.Sets.{Spans, part}
 use Rattle.scan.specs.Laws.{but-yes, but-no}
 use Rattle.scan.specs.Stretches.{span-took, spans-stop}
-use Rattle.sheet.specs.Parts.{Part, slice-part}
-use Rattle.sheet.specs.Order.{underscoreIf, underscoredIf, underscoredIf-length, underscoredIf-slice, underscoredIf-dot, underscoredIf-getD, underscoreIf-dot}
+use Rattle.sheet.specs.Parts.{slice-part}
+use Rattle.sheet.specs.Order.{underscoredIf, underscoredIf-length, underscoredIf-slice, underscoredIf-dot, underscoredIf-getD, underscoreIf-dot}
 use Rattle.sheet.specs.Find.{Gives, Level}
 use Rattle.sheet.specs.declared.lookup.Found.{Found}
 use Rattle.sheet.specs.declared.lookup.Found.the-variants.{Missing, None, Text, Dictionary}

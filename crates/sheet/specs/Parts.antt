@@ -1,11 +1,10 @@
 -- Parts of a list. Assumes nothing.
 use mathlib.Core.Path.{_≡_, refl, sym, ap, _∙_}
-use mathlib.Core.List.{List, [], _∷_, _++_, append-assoc, append-nil}
-use Prim.Native.Nat.{ℕ, zero, suc, _+_, _-_, _≤_, _<_}
-use native.Mathlib.Nat.{le-refl}
+use mathlib.Core.List.{List, _++_, append-assoc, append-nil}
+use Prim.Native.Nat.{ℕ, _+_, _-_, _≤_}
 use native.Mathlib.Omega.{arith}
-use lib.ListN.{length, take, drop, getD, length-append, length-drop, length-take, take-append-drop, drop-of-length-le}
-use lib.Seq.{drop-drop, drop-append-seam, take-append-seam, take-all, take-suc, getD-drop, length-take-le}
+use lib.ListN.{length, take, drop, length-append, length-drop, take-append-drop, drop-of-length-le}
+use lib.Seq.{drop-drop, drop-append-seam, take-append-seam, length-take-le}
 use Rattle.scan.specs.Sets.{part}
 
 pub length-slice : (f t : ℕ) (s : List ℕ) → t ≤ length s → length (part s f t) ≡ t - f

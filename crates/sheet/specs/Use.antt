@@ -1,18 +1,16 @@
 -- For callers: a sheet that was checked is the bytes of good records.
-use mathlib.Core.Path.{_≡_, refl, sym, ap, _∙_}
-use mathlib.Core.Bool.{Bool, true, false, _&&_}
+use mathlib.Core.Path.{_≡_, refl, sym}
+use mathlib.Core.Bool.{true}
 use mathlib.Core.List.{List, [], _∷_}
 use mathlib.Core.Option.{Option, some}
-use Prim.Native.Nat.{ℕ, zero, suc, _≤_, _<_}
-use native.Mathlib.Omega.{arith}
+use Prim.Native.Nat.{ℕ, suc, _≤_, _<_}
 use lib.Dec.{ltb}
-use lib.ListN.{length, take, getD}
-use lib.Seq.{length-take-le}
+use lib.ListN.{length, getD}
 use Rattle.rules.specs.Reader.{all}
 use Rattle.rules.specs.Bytes.{isByte, word}
-use Rattle.rules.specs.Sheet.{Value, text, nothing, dictionary, Records, encode, sheetLength, goodRecords, goodValue, sheetOf, set}
+use Rattle.rules.specs.Sheet.{Value, text, nothing, dictionary, Records, encode, goodRecords, sheetOf}
 use Rattle.rules.specs.Laws.Bool.{and-i, ltb-true, isSome, true-some}
-use Rattle.rules.specs.Laws.Sheet.{sheet-good, sheet-canonical, set-good}
+use Rattle.rules.specs.Laws.Sheet.{sheet-good, sheet-canonical}
 use Rattle.sheet.specs.Find.{IsSheet, Gives}
 use Rattle.sheet.specs.declared.lookup.Found.{Found}
 use Rattle.sheet.specs.declared.lookup.Found.the-variants.{Missing, None, Text, Dictionary}

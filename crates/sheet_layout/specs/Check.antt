@@ -1,12 +1,12 @@
 -- The layout check: reading and testing in one go, which is what `sheetOf` says.
 use mathlib.Core.Path.{_≡_, refl, sym, ap, _∙_}
-use mathlib.Core.Bool.{Bool, true, false, not, _&&_, true≢false, false≢true}
-use mathlib.Core.List.{List, [], _∷_, _++_}
+use mathlib.Core.Bool.{Bool, true, false, _&&_}
+use mathlib.Core.List.{List, [], _∷_}
 use mathlib.Core.Option.{Option, none, some}
-use Prim.Native.Nat.{ℕ, zero, suc, _+_, _-_, _/_, _≤_, _<_}
+use Prim.Native.Nat.{ℕ, zero, suc, _-_, _/_, _≤_, _<_}
 use native.Mathlib.Omega.{arith}
 use lib.Dec.{eqb, leb}
-use lib.ListN.{length, take, drop, getD, length-drop, drop-of-length-le}
+use lib.ListN.{length, drop, getD, drop-of-length-le}
 use lib.Seq.{drop-cons}
 use borrow.Author.Tests.{ne-eqb, le-leb, lt-leb}
 use Rattle.scan.specs.Sets.{part}
@@ -14,7 +14,7 @@ use Rattle.rules.specs.Reader.{all}
 use Rattle.rules.specs.Bytes.{ascii, word, nameByte, less}
 use Rattle.rules.specs.Layout.{Parser, bind, _>>=_, pure, broken, bit, byte, word16, field, fieldIf}
 use Rattle.rules.specs.Sheet.{Value, text, nothing, dictionary, Records, end, rec, value, oneRecord, someRecords, allRecords, levels, decode, before, goodValue, goodRecords, sheetOf}
-use Rattle.rules.specs.Laws.Bool.{and-l, and-r, and-i, not-true, isSome}
+use Rattle.rules.specs.Laws.Bool.{and-l, and-r, and-i, isSome}
 use Rattle.sheet.specs.Heads.{Shape, plain, absent, holding, shapeKind, shapeText, shapeCount, shape, head, IsItem, Reads}
 use Rattle.sheet.specs.Order.{orderOf, underscoredIf, order-less}
 use Rattle.sheet.specs.declared.head.Head.{Head}

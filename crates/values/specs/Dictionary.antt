@@ -1,14 +1,14 @@
 -- A value by what stands at its place, and a dictionary entry by entry.
 use mathlib.Core.Path.{_≡_, refl, sym, ap, subst, _∙_}
-use mathlib.Core.List.{List, [], _∷_, _++_}
+use mathlib.Core.List.{List, [], _++_}
 use mathlib.Core.Bool.{Bool, true, false, true≢false}
-use Prim.Native.Nat.{ℕ, zero, suc, _+_, _-_, _*_, _≤_, _<_}
+use Prim.Native.Nat.{ℕ, zero, suc, _+_, _-_, _≤_, _<_}
 use native.Mathlib.Omega.{arith}
 use lib.ListN.{length, take, drop, length-append, length-drop}
 use lib.Seq.{length-take-le, take-append-le, drop-at}
 use borrow.Author.Tests.{le-leb, lt-leb}
 use Rattle.rules.specs.Answer.{Answer, refused, accepted}
-use Rattle.rules.specs.Reader.{Reader, ret, ifR, _>>=_, _>>_, bytes, the, but, either, rounds, Turn, again, stop}
+use Rattle.rules.specs.Reader.{Reader, ret, ifR, _>>=_, _>>_, bytes, but, either, rounds, Turn, again, stop}
 use Rattle.rules.specs.Bytes.{blank, lineBlank, letter, nameByte}
 use Rattle.rules.specs.Sheet.{Value, nothing, dictionary, Records, end, encode, fieldBytes, word16Bytes, valueLength, set}
 use Rattle.rules.specs.Definitions.{textValue, value, grown, entryRound, dictionaryValue}

@@ -7,7 +7,7 @@ use Rattle.bundle_layout.proofs.check.Reads as check-reads
 use Rattle.scan.proofs.is_ascii.Reads as is-ascii-reads
 use Rattle.paths.proofs.is_folder.Reads as is-folder-reads
 use Rattle.sheet_layout.proofs.check.Reads as check-check-reads
-use mathlib.Core.Path.{_≡_, refl, sym, ap, _∙_}
+use mathlib.Core.Path.{sym, _∙_}
 use native.Mathlib.Omega.{arith}
 use borrow.Author.Tests.{not-true, not-false}
 use Rattle.arguments.specs.Given.{judges-two, judges-three, judges-four, judges-six, judges-nine, judges-none}

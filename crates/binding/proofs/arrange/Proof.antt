@@ -4,9 +4,6 @@ use Rattle.binding.proofs.arrange.Tie as tie
 use Rattle.binding.proofs.arrange.Reads as reads
 use Rattle.binding.proofs.arrange.Lts as lts
 use Rattle.binding.proofs.shift.Reads as shift-reads
-use mathlib.Core.Path.{_≡_, refl, sym, ap, _∙_}
-use native.Mathlib.Omega.{arith}
-use lib.Seq.{length-sets}
 use Rattle.binding.specs.Moves.{arrange-down, arrange-below, arrange-above, arrange-across}
 
 sub-e : tie.Need-sub-e

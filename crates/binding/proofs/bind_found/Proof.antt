@@ -7,7 +7,7 @@ use Rattle.binding.proofs.arrange.Reads as arrange-reads
 use Rattle.binding.proofs.find_room.Reads as find-room-reads
 use Rattle.binding.proofs.put_opening.Reads as put-opening-reads
 use Rattle.binding.proofs.source_of.Reads as source-of-reads
-use mathlib.Core.Path.{_≡_, refl, sym, ap, _∙_}
+use mathlib.Core.Path.{refl, sym, ap}
 use native.Mathlib.Omega.{arith}
 use lib.ListN.{length}
 use lib.Seq.{length-take-le, length-sets}

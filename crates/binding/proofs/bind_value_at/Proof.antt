@@ -7,7 +7,7 @@ use Rattle.buffers.proofs.store.Reads as store-reads
 use Rattle.binding.proofs.find_room.Reads as find-room-reads
 use Rattle.binding.proofs.put_opening.Reads as put-opening-reads
 use Rattle.binding.proofs.shift.Reads as shift-reads
-use mathlib.Core.Path.{_≡_, refl, sym, ap, _∙_}
+use mathlib.Core.Path.{refl, sym, ap, _∙_}
 use native.Mathlib.Omega.{arith}
 use lib.ListN.{length}
 use lib.Seq.{length-take-le, length-sets}

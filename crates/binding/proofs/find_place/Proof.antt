@@ -7,9 +7,8 @@ use Rattle.binding.proofs.start.Reads as start-reads
 use Rattle.sheet.proofs.lookup.item.Reads as item-reads
 use Rattle.sheet.proofs.lookup.order.Reads as order-reads
 use Rattle.sheet.proofs.lookup.skip.Reads as skip-reads
-use mathlib.Core.Path.{_≡_, refl, sym, ap, _∙_}
 use native.Mathlib.Omega.{arith}
-use Prim.Native.Nat.{ℕ, _≤_, _-_, _+_}
+use Prim.Native.Nat.{_-_}
 use lib.ListN.{length}
 use Rattle.rules.specs.Sheet.{Records}
 use Rattle.sheet.specs.Order.{underscoredIf}

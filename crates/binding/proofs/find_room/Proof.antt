@@ -5,7 +5,7 @@ use Rattle.binding.proofs.find_room.Reads as reads
 use Rattle.binding.proofs.find_room.Lts as lts
 use Rattle.binding.proofs.opening_len.Reads as opening-len-reads
 use Rattle.binding.proofs.find_place.Reads as find-place-reads
-use mathlib.Core.Path.{_≡_, refl, sym, ap, _∙_}
+use mathlib.Core.Path.{refl}
 use native.Mathlib.Omega.{arith}
 use lib.ListN.{length}
 use Rattle.binding.specs.Write.{open-le, short-of, plans-long, plans-over, plans-fits}

@@ -1,9 +1,7 @@
-use borrow.Author.Needs.{needs}
 use Rattle.binding.proofs.map_of.Statement.{statement}
 use Rattle.binding.proofs.map_of.Tie as tie
 use Rattle.binding.proofs.map_of.Reads as reads
 use Rattle.binding.proofs.map_of.Lts as lts
-use mathlib.Core.Path.{_≡_, refl, sym, ap, _∙_}
 use Rattle.binding.specs.Write.{map-plain, map-named}
 
 returns : tie.Need-returns

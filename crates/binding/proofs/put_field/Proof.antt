@@ -5,9 +5,9 @@ use Rattle.binding.proofs.put_field.Reads as reads
 use Rattle.binding.proofs.put_field.Lts as lts
 use Rattle.binding.proofs.put_name.Reads as put-name-reads
 use Rattle.binding.proofs.put_number.Reads as put-number-reads
-use mathlib.Core.Path.{_≡_, refl, sym, ap, _∙_}
+use mathlib.Core.Path.{ap, _∙_}
 use native.Mathlib.Omega.{arith}
-use lib.ListN.{length, length-set}
+use lib.ListN.{length}
 use lib.Seq.{length-sets}
 use Rattle.binding.specs.Write.{field-none, field-some, wide-some}
 

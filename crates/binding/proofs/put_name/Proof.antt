@@ -4,8 +4,8 @@ use Rattle.binding.proofs.put_name.Tie as tie
 use Rattle.binding.proofs.put_name.Reads as reads
 use Rattle.binding.proofs.put_name.Lts as lts
 use Rattle.sheet.proofs.lookup.underscored_if.Reads as underscored-if-reads
-use mathlib.Core.Path.{_≡_, refl, sym, ap, _∙_}
-use Prim.Native.Nat.{ℕ, _≤_, _-_, _+_}
+use mathlib.Core.Path.{_≡_, refl, sym, _∙_}
+use Prim.Native.Nat.{_≤_, _-_, _+_}
 use native.Mathlib.Nat.{add-zero}
 use lib.ListN.{length, drop, length-set}
 use lib.Seq.{sets}

@@ -3,8 +3,7 @@ use Rattle.binding.proofs.put_number.Statement.{statement}
 use Rattle.binding.proofs.put_number.Tie as tie
 use Rattle.binding.proofs.put_number.Reads as reads
 use Rattle.binding.proofs.put_number.Lts as lts
-use mathlib.Core.Path.{_≡_, refl, sym, ap, _∙_}
-use native.Mathlib.Omega.{arith}
+use mathlib.Core.Path.{refl}
 use native.Mathlib.Numerals.{add-one}
 use lib.ListN.{length-set}
 use Rattle.rules.specs.Sheet.{word16Bytes}

@@ -1,4 +1,3 @@
-use borrow.Author.Needs.{needs}
 use Rattle.binding.proofs.put_opening.Statement.{statement}
 use Rattle.binding.proofs.put_opening.Tie as tie
 use Rattle.binding.proofs.put_opening.Reads as reads
@@ -7,7 +6,7 @@ use Rattle.binding.proofs.map_of.Reads as map-of-reads
 use Rattle.binding.proofs.put_field.Reads as put-field-reads
 use Rattle.binding.proofs.put_number.Reads as put-number-reads
 use Rattle.binding.proofs.sized.Reads as sized-reads
-use mathlib.Core.Path.{_≡_, refl, sym, ap, _∙_}
+use mathlib.Core.Path.{ap, _∙_}
 use native.Mathlib.Omega.{arith}
 use lib.ListN.{length, length-set}
 use lib.Seq.{length-sets}

@@ -6,7 +6,7 @@ use Rattle.binding.proofs.shift.Reads as reads
 use Rattle.binding.proofs.shift.Lts as lts
 use Rattle.buffers.proofs.move_down.Reads as move-down-reads
 use Rattle.buffers.proofs.move_up.Reads as move-up-reads
-use mathlib.Core.Path.{_≡_, refl, sym, ap, _∙_}
+use mathlib.Core.Path.{_≡_, sym, ap, _∙_}
 use native.Mathlib.Omega.{arith}
 use Prim.Native.Nat.{_+_, _-_}
 use lib.ListN.{take, drop}

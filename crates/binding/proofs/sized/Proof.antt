@@ -3,7 +3,7 @@ use Rattle.binding.proofs.sized.Statement.{statement}
 use Rattle.binding.proofs.sized.Tie as tie
 use Rattle.binding.proofs.sized.Reads as reads
 use Rattle.binding.proofs.sized.Lts as lts
-use mathlib.Core.Path.{_≡_, refl, sym, ap, _∙_}
+use mathlib.Core.Path.{sym}
 use native.Mathlib.Omega.{arith}
 use Rattle.binding.specs.Write.{wide-zero, wide-some}
 

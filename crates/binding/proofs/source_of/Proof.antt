@@ -3,7 +3,7 @@ use Rattle.binding.proofs.source_of.Statement.{statement}
 use Rattle.binding.proofs.source_of.Tie as tie
 use Rattle.binding.proofs.source_of.Reads as reads
 use Rattle.binding.proofs.source_of.Lts as lts
-use mathlib.Core.Path.{_≡_, refl, sym, ap, subst, _∙_}
+use mathlib.Core.Path.{_≡_, ap}
 use mathlib.Core.Logic.{_⊎_, ⊎-elim}
 use Prim.Native.Nat.{ℕ, _<_}
 use native.Mathlib.Omega.{arith}

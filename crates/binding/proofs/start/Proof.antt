@@ -5,7 +5,6 @@ use Rattle.binding.proofs.start.Reads as reads
 use Rattle.binding.proofs.start.Lts as lts
 use Rattle.sheet.proofs.lookup.item.Reads as item-reads
 use Rattle.sheet.proofs.lookup.order.Reads as order-reads
-use mathlib.Core.Path.{_≡_, refl, sym, ap, _∙_}
 use native.Mathlib.Omega.{arith}
 use Rattle.binding.specs.Place.{place-start}
 use Rattle.binding.specs.Mark.{there, there-at, place-there}

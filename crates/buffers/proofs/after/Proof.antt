@@ -4,9 +4,8 @@ use Rattle.buffers.proofs.after.Tie as tie
 use Rattle.buffers.proofs.after.Reads as reads
 use Rattle.buffers.proofs.after.Lts as lts
 use Rattle.buffers.proofs.overflow.Reads as overflow-reads
-use mathlib.Core.Path.{_≡_, refl, sym, ap, _∙_}
-use native.Mathlib.Omega.{arith}
-use Rattle.buffers.specs.Put.{after, overflow, Writer}
+use mathlib.Core.Path.{sym, _∙_}
+use Rattle.buffers.specs.Put.{overflow}
 use Rattle.buffers.specs.Laws.{after-fits, after-split, after-stays, after-past}
 
 add-result : tie.Need-add-result

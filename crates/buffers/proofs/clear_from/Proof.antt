@@ -3,8 +3,8 @@ use Rattle.buffers.proofs.clear_from.Statement.{statement}
 use Rattle.buffers.proofs.clear_from.Tie as tie
 use Rattle.buffers.proofs.clear_from.Reads as reads
 use Rattle.buffers.proofs.clear_from.Lts as lts
-use mathlib.Core.Path.{_≡_, refl, sym, ap, _∙_}
-use Prim.Native.Nat.{ℕ, _≤_, _+_, _-_}
+use mathlib.Core.Path.{_≡_, refl, _∙_}
+use Prim.Native.Nat.{_-_}
 use lib.ListN.{length, length-set}
 use Rattle.buffers.specs.Laws.{zeroFrom, zero-step, zero-end, zero-padded}
 

@@ -1,8 +1,8 @@
-use mathlib.Core.Path.{_≡_, sym, _∙_, ap, refl}
-use Prim.Native.Nat.{ℕ, _≤_, _+_, _-_}
+use mathlib.Core.Path.{_≡_, sym, _∙_}
+use Prim.Native.Nat.{_≤_, _-_}
 use native.Mathlib.Omega.{arith}
 use borrow.Author.Needs.{needs}
-use lib.ListN.{length, take, drop, set, getD, length-set}
+use lib.ListN.{length, take, drop, length-set}
 use lib.Seq.{sets}
 use Rattle.buffers.specs.Move.{down-step, none-left}
 use Rattle.buffers.proofs.move_down.Statement.{statement}

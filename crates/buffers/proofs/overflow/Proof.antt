@@ -4,7 +4,7 @@ use Rattle.buffers.proofs.overflow.Tie as tie
 use Rattle.buffers.proofs.overflow.Reads as reads
 use Rattle.buffers.proofs.overflow.Lts as lts
 use Rattle.scan.proofs.span.Reads as span-reads
-use mathlib.Core.Path.{_≡_, refl, sym, ap, _∙_}
+use mathlib.Core.Path.{refl}
 use Rattle.buffers.specs.Put.{overflow}
 use Rattle.scan.specs.Laws.{spans-all, spans-not}
 

@@ -4,7 +4,6 @@ use Rattle.buffers.proofs.step.Tie as tie
 use Rattle.buffers.proofs.step.Reads as reads
 use Rattle.buffers.proofs.step.Lts as lts
 use Rattle.scan.proofs.member.Reads as member-reads
-use mathlib.Core.Path.{_≡_, refl, sym, ap, _∙_}
 use Rattle.buffers.specs.Laws.{byte-on, byte-soft, byte-full}
 
 add-result : tie.Need-add-result

@@ -4,10 +4,10 @@ use Rattle.buffers.proofs.store.Tie as tie
 use Rattle.buffers.proofs.store.Reads as reads
 use Rattle.buffers.proofs.store.Lts as lts
 use Rattle.buffers.proofs.clipped.Reads as clipped-reads
-use mathlib.Core.Path.{_≡_, refl, sym, ap, _∙_}
-use Prim.Native.Nat.{ℕ, _≤_, _+_, _-_}
+use mathlib.Core.Path.{_≡_, refl, _∙_}
+use Prim.Native.Nat.{_≤_, _-_}
 use native.Mathlib.Omega.{arith}
-use lib.ListN.{length, take, set, length-set}
+use lib.ListN.{length, take, length-set}
 use lib.Seq.{sets}
 use Rattle.buffers.specs.Laws.{sets-more, sets-clipped}
 

@@ -3,8 +3,7 @@ use Rattle.buffers.proofs.store_byte.Statement.{statement}
 use Rattle.buffers.proofs.store_byte.Tie as tie
 use Rattle.buffers.proofs.store_byte.Reads as reads
 use Rattle.buffers.proofs.store_byte.Lts as lts
-use mathlib.Core.Path.{_≡_, refl, sym, ap, _∙_}
-use native.Mathlib.Omega.{arith}
+use mathlib.Core.Path.{sym}
 use lib.Seq.{set-out}
 
 slice-write-out : tie.Need-slice-write-out

@@ -7,7 +7,7 @@ use Rattle.builder.proofs.found_file.Reads as found-file-reads
 use Rattle.bundle_layout.proofs.check.Reads as check-reads
 use Rattle.bundle.proofs.find.Reads as find-reads
 use Rattle.paths.proofs.is_path.Reads as is-path-reads
-use mathlib.Core.Path.{_≡_, refl, sym, ap, _∙_}
+use mathlib.Core.Path.{sym, _∙_}
 use borrow.Author.Tests.{not-true, not-false}
 use Rattle.builder.specs.Files.{find-two, find-four, find-found}
 

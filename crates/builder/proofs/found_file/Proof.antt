@@ -3,7 +3,7 @@ use Rattle.builder.proofs.found_file.Statement.{statement}
 use Rattle.builder.proofs.found_file.Tie as tie
 use Rattle.builder.proofs.found_file.Reads as reads
 use Rattle.builder.proofs.found_file.Lts as lts
-use mathlib.Core.Path.{_≡_, refl}
+use mathlib.Core.Path.{refl}
 use Rattle.builder.specs.Files.{fileAnswer}
 
 enum-told : tie.Need-enum-told

@@ -3,7 +3,7 @@ use Rattle.builder.proofs.kind.Statement.{statement}
 use Rattle.builder.proofs.kind.Tie as tie
 use Rattle.builder.proofs.kind.Reads as reads
 use Rattle.builder.proofs.kind.Lts as lts
-use mathlib.Core.Path.{_≡_, refl}
+use mathlib.Core.Path.{refl}
 use Rattle.sheet.specs.Find.{foundKind}
 
 enum-told : tie.Need-enum-told

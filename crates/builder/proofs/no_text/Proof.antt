@@ -4,7 +4,7 @@ use Rattle.builder.proofs.no_text.Tie as tie
 use Rattle.builder.proofs.no_text.Reads as reads
 use Rattle.builder.proofs.no_text.Lts as lts
 use Rattle.buffers.proofs.clear_from.Reads as clear-from-reads
-use mathlib.Core.Path.{_≡_, refl, sym, ap, _∙_}
+use mathlib.Core.Path.{refl, _∙_}
 use native.Mathlib.Nat.{sub-zero}
 use Rattle.rules.specs.Calls.{padded}
 

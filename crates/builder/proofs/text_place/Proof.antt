@@ -3,7 +3,7 @@ use Rattle.builder.proofs.text_place.Statement.{statement}
 use Rattle.builder.proofs.text_place.Tie as tie
 use Rattle.builder.proofs.text_place.Reads as reads
 use Rattle.builder.proofs.text_place.Lts as lts
-use mathlib.Core.Path.{_≡_, refl}
+use mathlib.Core.Path.{refl}
 use Rattle.builder.specs.Text.{TextAt}
 
 enum-known-found : tie.Need-enum-known-found

@@ -6,7 +6,7 @@ use Rattle.expansion.proofs.expand.Lts as lts
 use Rattle.buffers.proofs.put.Reads as put-reads
 use Rattle.expansion.proofs.step.step.Reads as step-reads
 use Rattle.scan.proofs.find.Reads as find-reads
-use mathlib.Core.Path.{_≡_, refl, sym, _∙_}
+use mathlib.Core.Path.{_∙_}
 use lib.ListN.{length}
 use Prim.Native.Nat.{_-_}
 use native.Mathlib.Omega.{arith}

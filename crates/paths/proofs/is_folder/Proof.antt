@@ -4,7 +4,7 @@ use Rattle.paths.proofs.is_folder.Tie as tie
 use Rattle.paths.proofs.is_folder.Reads as reads
 use Rattle.paths.proofs.is_folder.Lts as lts
 use Rattle.paths.proofs.is_path.Reads as is-path-reads
-use mathlib.Core.Path.{_≡_, refl, sym, ap, _∙_}
+use mathlib.Core.Path.{_∙_}
 use Rattle.paths.specs.Paths.{folder-empty, folder-path}
 
 returns : tie.Need-returns

@@ -5,10 +5,9 @@ use Rattle.paths.proofs.join.Reads as reads
 use Rattle.paths.proofs.join.Lts as lts
 use Rattle.paths.proofs.joined_byte.Reads as joined-byte-reads
 use Rattle.paths.proofs.joined_len.Reads as joined-len-reads
-use mathlib.Core.Path.{_≡_, sym, refl}
-use Prim.Native.Nat.{_-_, _<_, _≤_}
+use mathlib.Core.Path.{refl}
+use Prim.Native.Nat.{_-_}
 use native.Mathlib.Omega.{arith}
-use lib.ListN.{length}
 use Rattle.rules.specs.Bytes.{join}
 use Rattle.paths.specs.Paths.{Copied, copied-start, copied-on, joins-over, joins-all}
 

@@ -7,7 +7,7 @@ use Rattle.scan.proofs.member.Reads as member-reads
 use Rattle.paths.proofs.dotted.Reads as dotted-reads
 use Rattle.paths.proofs.ended.Reads as ended-reads
 use Rattle.paths.proofs.named.Reads as named-reads
-use mathlib.Core.Path.{_≡_, refl, sym, ap, _∙_}
+use mathlib.Core.Path.{sym, _∙_}
 use borrow.Author.Tests.{not-true, not-false}
 use Rattle.paths.specs.Paths.{step-slash, step-no, step-dot, step-name}
 

@@ -5,7 +5,6 @@ use Rattle.paths.proofs.trim.Reads as reads
 use Rattle.paths.proofs.trim.Lts as lts
 use Rattle.paths.proofs.trim_end.Reads as trim-end-reads
 use Rattle.scan.proofs.span.Reads as span-reads
-use native.Mathlib.Omega.{arith}
 use Rattle.paths.specs.Paths.{trims}
 
 sub-part : tie.Need-sub-part

@@ -5,7 +5,7 @@ use Rattle.paths.proofs.trim_end.Reads as reads
 use Rattle.paths.proofs.trim_end.Lts as lts
 use Rattle.scan.proofs.member.Reads as member-reads
 use Prim.Native.Nat.{_-_}
-use mathlib.Core.Path.{_≡_, refl, sym, ap, _∙_}
+use mathlib.Core.Path.{sym, _∙_}
 use mathlib.Core.Logic.{⊎-elim}
 use borrow.Author.Tests.{not-true, not-false}
 use lib.ListN.{length}

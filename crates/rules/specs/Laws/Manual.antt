@@ -1,13 +1,13 @@
 -- What `manual` writes fits its buffer.
-use mathlib.Core.Path.{_≡_, refl, sym, ap, _∙_}
-use mathlib.Core.List.{List, [], _∷_, _++_}
+use mathlib.Core.Path.{_≡_, refl, ap}
+use mathlib.Core.List.{List}
 use mathlib.Core.Bool.{Bool, true, false}
-use Prim.Native.Nat.{ℕ, zero, suc, _+_, _*_, _≤_}
+use Prim.Native.Nat.{ℕ, zero, suc, _≤_}
 use native.Mathlib.Omega.{arith}
 use lib.Dec.{leb, ltb}
 use lib.ListN.{length, take, length-append}
 use lib.Seq.{length-take-le}
-use Rattle.rules.specs.Answer.{Answer, refused, accepted, _>>=_, _>>_, check, orRefuse}
+use Rattle.rules.specs.Answer.{Answer, refused, accepted, orRefuse}
 use Rattle.rules.specs.Reader.{bytes}
 use Rattle.rules.specs.Bundle.{bundleOf}
 use Rattle.rules.specs.Files.{view, fetch}

@@ -4,7 +4,6 @@ use Rattle.scan.proofs.all.Tie as tie
 use Rattle.scan.proofs.all.Reads as reads
 use Rattle.scan.proofs.all.Lts as lts
 use Rattle.scan.proofs.span.Reads as span-reads
-use mathlib.Core.Path.{_≡_, refl, sym, ap, _∙_}
 use Rattle.scan.specs.Laws.{all-says}
 
 span-requires : tie.Need-span-requires

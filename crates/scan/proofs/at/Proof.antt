@@ -3,7 +3,7 @@ use Rattle.scan.proofs.at.Statement.{statement}
 use Rattle.scan.proofs.at.Tie as tie
 use Rattle.scan.proofs.at.Reads as reads
 use Rattle.scan.proofs.at.Lts as lts
-use mathlib.Core.Path.{_≡_, refl}
+use mathlib.Core.Path.{refl}
 use Rattle.scan.specs.Laws.{sees-is, sees-end}
 
 shared-slice-read-result : tie.Need-shared-slice-read-result

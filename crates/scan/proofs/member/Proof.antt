@@ -3,7 +3,7 @@ use Rattle.scan.proofs.member.Statement.{statement}
 use Rattle.scan.proofs.member.Tie as tie
 use Rattle.scan.proofs.member.Reads as reads
 use Rattle.scan.proofs.member.Lts as lts
-use mathlib.Core.Path.{_≡_, refl}
+use mathlib.Core.Path.{refl}
 use Rattle.scan.specs.Sets.{classes}
 
 enum-told : tie.Need-enum-told

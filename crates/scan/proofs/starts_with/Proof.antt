@@ -3,11 +3,8 @@ use Rattle.scan.proofs.starts_with.Statement.{statement}
 use Rattle.scan.proofs.starts_with.Tie as tie
 use Rattle.scan.proofs.starts_with.Reads as reads
 use Rattle.scan.proofs.starts_with.Lts as lts
-use mathlib.Core.Path.{_≡_, refl, sym, ap, _∙_}
-use Prim.Native.Nat.{_≤_, _-_, _+_}
-use native.Mathlib.Omega.{arith}
-use lib.ListN.{length, drop}
-use Rattle.rules.specs.Reader.{prefix}
+use Prim.Native.Nat.{_-_}
+use lib.ListN.{length}
 use Rattle.scan.specs.Laws.{Matching, matching-start, matching-short, matching-no, matching-on, matching-end}
 
 abbrev Inv-loop : tie.InvT-loop

@@ -8,7 +8,7 @@ use Rattle.sheet_layout.proofs.+inside.Lts-inside as inside-lts
 use Rattle.sheet_layout.proofs.entry.Reads as entry-reads
 use Rattle.sheet_layout.proofs.+inside.{statement}
 use Rattle.sheet_layout.proofs.+inside.Tie.{close}
-use mathlib.Core.Path.{_≡_, refl, sym, _∙_}
+use mathlib.Core.Path.{refl}
 use native.Mathlib.Omega.{arith}
 use Rattle.sheet_layout.specs.Check.{Running, body-flat, body-none, running-start, running-end, running-broken, running-bad, running-on, entered, within}
 

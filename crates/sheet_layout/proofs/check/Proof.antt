@@ -5,7 +5,7 @@ use Rattle.sheet_layout.proofs.check.Reads as reads
 use Rattle.sheet_layout.proofs.check.Lts as lts
 use Rattle.sheet_layout.proofs.entry.Reads as entry-reads
 use Rattle.sheet_layout.proofs.inside.Reads as inside-reads
-use mathlib.Core.Path.{_≡_, refl, sym, _∙_}
+use mathlib.Core.Path.{refl}
 use native.Mathlib.Omega.{arith}
 use Prim.Native.Nat.{_-_}
 use lib.ListN.{length}

@@ -5,7 +5,7 @@ use Rattle.sheet_layout.proofs.entry.Reads as reads
 use Rattle.sheet_layout.proofs.entry.Lts as lts
 use Rattle.sheet_layout.proofs.keeps_rules.Reads as keeps-rules-reads
 use Rattle.sheet.proofs.head.read.Reads as read-reads
-use mathlib.Core.Path.{_≡_, sym, _∙_}
+use mathlib.Core.Path.{sym, _∙_}
 use Rattle.sheet_layout.specs.Check.{in-sheet, enters-broken, enters-in, enters-not}
 
 read-requires : tie.Need-read-requires

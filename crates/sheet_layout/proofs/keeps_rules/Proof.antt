@@ -6,8 +6,7 @@ use Rattle.sheet_layout.proofs.keeps_rules.Lts as lts
 use Rattle.sheet.proofs.lookup.order.Reads as order-reads
 use Rattle.scan.proofs.all.Reads as all-reads
 use Rattle.scan.proofs.is_ascii.Reads as is-ascii-reads
-use mathlib.Core.Path.{_≡_, sym, _∙_}
-use native.Mathlib.Omega.{arith}
+use mathlib.Core.Path.{sym, _∙_}
 use borrow.Author.Tests.{not-true, not-false}
 use Rattle.sheet_layout.specs.Check.{fits-name, fits-text, fits-first, fits-order}
 

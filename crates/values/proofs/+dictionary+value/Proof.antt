@@ -21,15 +21,14 @@ use Rattle.values.proofs.own_room.Reads as own-room-reads
 use Rattle.values.proofs.text_value.Reads as text-value-reads
 use Rattle.values.proofs.+dictionary+value.{statement}
 use Rattle.values.proofs.+dictionary+value.Tie.{close}
-use mathlib.Core.Path.{_≡_, refl, sym, ap, _∙_}
-use Prim.Native.Nat.{_+_, _-_, _*_, _≤_}
+use mathlib.Core.Path.{sym, _∙_}
+use Prim.Native.Nat.{_+_, _-_, _*_}
 use native.Mathlib.Omega.{arith}
 use lib.ListN.{length}
 use lib.Seq.{length-take-le}
 use borrow.Author.Tests.{not-true, not-false}
-use Rattle.scan.specs.Laws.{tail-part}
 use Rattle.values.specs.Values.{slot-le, room-text}
-use Rattle.values.specs.Dictionary.{value-quote, value-open, value-none, value-name, value-other, dictionary-seven, Entering, entering-start, entering-two, entering-behind, entering-close, after-size, after-records, entry-bindable, entry-mark, entry-end, entry-source, entering-no, bound-size, entering-over, entering-on, entering-moves}
+use Rattle.values.specs.Dictionary.{value-quote, value-open, value-none, value-name, value-other, dictionary-seven, Entering, entering-start, entering-two, entering-behind, entering-close, after-size, entry-bindable, entry-mark, entry-end, entry-source, entering-no, bound-size, entering-over, entering-on, entering-moves}
 
 abbrev μ-dictionary : Measures 3 dictionary-kinds.ps ℕ
 μ-dictionary κs a = 2 * a .1 .1 .1 .1 .1 .0

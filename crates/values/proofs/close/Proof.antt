@@ -5,7 +5,7 @@ use Rattle.values.proofs.close.Reads as reads
 use Rattle.values.proofs.close.Lts as lts
 use Rattle.scan.proofs.skip.Reads as skip-reads
 use Rattle.sheet.proofs.lookup.count.Reads as count-reads
-use mathlib.Core.Path.{_≡_, refl, sym}
+use mathlib.Core.Path.{refl, sym}
 use Rattle.binding.specs.Write.{dictionary-source}
 use mathlib.Core.Path.{subst}
 use Rattle.rules.specs.Sheet.{dictionary}

@@ -1,4 +1,3 @@
-use borrow.Author.Needs.{needs}
 use Rattle.values.proofs.none_value.Statement.{statement}
 use Rattle.values.proofs.none_value.Tie as tie
 use Rattle.values.proofs.none_value.Reads as reads

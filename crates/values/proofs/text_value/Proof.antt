@@ -5,9 +5,8 @@ use Rattle.values.proofs.text_value.Reads as reads
 use Rattle.values.proofs.text_value.Lts as lts
 use Rattle.strings.proofs.expression.Reads as expression-reads
 use Rattle.values.proofs.own_room.Reads as own-room-reads
-use mathlib.Core.Path.{_≡_, refl, sym, ap, _∙_}
+use mathlib.Core.Path.{sym}
 use native.Mathlib.Omega.{arith}
-use lib.ListN.{length}
 use lib.Seq.{length-take-le}
 use Rattle.values.specs.Values.{slot-le, text-size, text-inside, text-over, text-none, text-some}
 

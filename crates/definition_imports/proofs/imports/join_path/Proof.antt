@@ -5,7 +5,7 @@ use Rattle.definition_imports.proofs.imports.join_path.Reads as reads
 use Rattle.definition_imports.proofs.imports.join_path.Lts as lts
 use Rattle.paths.proofs.is_path.Reads as is-path-reads
 use Rattle.paths.proofs.join.Reads as join-reads
-use mathlib.Core.Path.{_≡_, sym}
+use mathlib.Core.Path.{sym}
 use native.Mathlib.Omega.{arith}
 use lib.Seq.{length-take-le}
 use Rattle.scan.specs.Laws.{start-length}

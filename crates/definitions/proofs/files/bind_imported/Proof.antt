@@ -5,7 +5,7 @@ use Rattle.definitions.proofs.files.bind_imported.Reads as reads
 use Rattle.definitions.proofs.files.bind_imported.Lts as lts
 use Rattle.buffers.proofs.store.Reads as store-reads
 use Rattle.definition_imports.proofs.names.bind_names.Reads as bind-names-reads
-use mathlib.Core.Path.{_≡_, sym, ap, _∙_}
+use mathlib.Core.Path.{sym, ap, _∙_}
 use native.Mathlib.Omega.{arith}
 use lib.ListN.{length}
 use lib.Seq.{length-take-le, length-sets}

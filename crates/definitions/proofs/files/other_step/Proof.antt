@@ -7,7 +7,7 @@ use Rattle.definitions.proofs.files.ended.Reads as ended-reads
 use Rattle.definitions.proofs.steps.let_step.Reads as let-step-reads
 use Rattle.scan.proofs.find.Reads as find-reads
 use Rattle.scan.proofs.starts_with.Reads as starts-with-reads
-use mathlib.Core.Path.{_≡_, refl}
+use mathlib.Core.Path.{refl}
 use Rattle.definitions.specs.File.{steps-as, other-comment, other-let, other-skip}
 
 slice-aggregate-starts-with : tie.Need-slice-aggregate-starts-with

@@ -6,7 +6,7 @@ use Rattle.definitions.proofs.steps.let_step.Lts as lts
 use Rattle.scan.proofs.span.Reads as span-reads
 use Rattle.binding.proofs.bind_value_at.Reads as bind-value-at-reads
 use Rattle.values.proofs.value.Reads as value-reads
-use mathlib.Core.Path.{_≡_, sym, _∙_}
+use mathlib.Core.Path.{sym}
 use native.Mathlib.Omega.{arith}
 use lib.Seq.{length-take-le}
 use borrow.Author.Tests.{not-true, not-false}

@@ -8,7 +8,7 @@ use Rattle.expansion.proofs.call_steps.end_call.Reads as end-call-reads
 use Rattle.expansion.proofs.call_steps.show.Reads as show-reads
 use Rattle.scan.proofs.at.Reads as at-reads
 use Rattle.scan.proofs.span.Reads as span-reads
-use mathlib.Core.Path.{_≡_, refl, sym, _∙_}
+use mathlib.Core.Path.{refl, _∙_}
 use native.Mathlib.Omega.{arith}
 use borrow.Author.Tests.{not-true, not-false}
 use Rattle.rules.specs.Reader.{bytes}

@@ -8,7 +8,6 @@ use Rattle.expansion.proofs.call_steps.raw_step.Reads as raw-step-reads
 use Rattle.expansion.proofs.reference.reference_step.Reads as reference-step-reads
 use Rattle.scan.proofs.starts_with.Reads as starts-with-reads
 use mathlib.Core.Path.{refl}
-use native.Mathlib.Omega.{arith}
 use Rattle.scan.specs.Laws.{starts-as}
 use Rattle.expansion.specs.Step.{writes-raw, writes-link, writes-reference}
 

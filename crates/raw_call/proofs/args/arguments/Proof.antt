@@ -7,7 +7,7 @@ use Rattle.raw_call.proofs.args.argument.Reads as argument-reads
 use Rattle.scan.proofs.sees.Reads as sees-reads
 use mathlib.Core.Path.{_≡_, refl}
 use mathlib.Core.List.{List, []}
-use mathlib.Core.Bool.{true, false}
+use mathlib.Core.Bool.{false}
 use Prim.Native.Nat.{ℕ, _-_}
 use native.Mathlib.Omega.{arith}
 use lib.ListN.{length}

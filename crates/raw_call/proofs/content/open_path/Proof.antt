@@ -5,7 +5,7 @@ use Rattle.raw_call.proofs.content.open_path.Reads as reads
 use Rattle.raw_call.proofs.content.open_path.Lts as lts
 use Rattle.bundle.proofs.open_text.Reads as open-text-reads
 use Rattle.scan.proofs.at.Reads as at-reads
-use mathlib.Core.Path.{_≡_, sym}
+use mathlib.Core.Path.{sym}
 use native.Mathlib.Omega.{arith}
 use lib.ListN.{length-take}
 use lib.Seq.{length-take-le}

@@ -8,11 +8,10 @@ use Rattle.calls.proofs.values.expression_end.Reads as expression-end-reads
 use Rattle.scan.proofs.at.Reads as at-reads
 use Rattle.scan.proofs.span.Reads as span-reads
 use Rattle.scan.proofs.starts_with.Reads as starts-with-reads
-use mathlib.Core.Path.{_≡_, sym}
 use mathlib.Core.List.{List}
 use Prim.Native.Nat.{ℕ}
 use native.Mathlib.Omega.{arith}
-use lib.ListN.{length, length-take, length-drop}
+use lib.ListN.{length-take, length-drop}
 use Rattle.raw_call.specs.Content.{content-expression, content-read, content-reference}
 
 at-requires : tie.Need-at-requires

@@ -10,9 +10,8 @@ use Rattle.scan.proofs.find.Reads as find-reads
 use Rattle.scan.proofs.skip.Reads as skip-reads
 use Rattle.scan.proofs.span.Reads as span-reads
 use Rattle.strings.proofs.expression.Reads as expression-reads
-use mathlib.Core.Path.{_≡_, sym}
 use native.Mathlib.Omega.{arith}
-use lib.ListN.{length, length-take, length-drop}
+use lib.ListN.{length-take, length-drop}
 use borrow.Author.Tests.{not-true, not-false}
 use Rattle.strings.specs.Paths.{path-in}
 use Rattle.raw_call.specs.Content.{read-back, read-file}

@@ -1,4 +1,3 @@
-use borrow.Author.Needs.{needs}
 use Rattle.sheet.proofs.head.allowed.Statement.{statement}
 use Rattle.sheet.proofs.head.allowed.Tie as tie
 use Rattle.sheet.proofs.head.allowed.Reads as reads

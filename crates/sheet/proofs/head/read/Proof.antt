@@ -6,7 +6,7 @@ use Rattle.sheet.proofs.head.read.Lts as lts
 use Rattle.sheet.proofs.head.allowed.Reads as allowed-reads
 use Rattle.sheet.proofs.head.field.Reads as field-reads
 use Rattle.sheet.proofs.head.value_head.Reads as value-head-reads
-use mathlib.Core.Path.{_≡_, sym, _∙_}
+use mathlib.Core.Path.{sym, _∙_}
 use native.Mathlib.Omega.{arith}
 use borrow.Author.Tests.{not-true, not-false}
 use Rattle.sheet.specs.Heads.{reads-end, reads-map, reads-plain, reads-named, reads-no-name}

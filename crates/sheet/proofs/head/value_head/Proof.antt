@@ -5,7 +5,6 @@ use Rattle.sheet.proofs.head.value_head.Reads as reads
 use Rattle.sheet.proofs.head.value_head.Lts as lts
 use Rattle.sheet.proofs.head.text_head.Reads as text-head-reads
 use Rattle.sheet.proofs.head.word.Reads as word-reads
-use native.Mathlib.Omega.{arith}
 use Rattle.sheet.specs.Heads.{value-as-text, value-dictionary, value-no-count, value-nothing, value-empty}
 
 text-head-requires : tie.Need-text-head-requires

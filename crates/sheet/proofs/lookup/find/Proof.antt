@@ -7,11 +7,8 @@ use Rattle.sheet.proofs.lookup.item.Reads as item-reads
 use Rattle.sheet.proofs.lookup.order.Reads as order-reads
 use Rattle.sheet.proofs.lookup.skip.Reads as skip-reads
 use Rattle.sheet.proofs.lookup.value.Reads as value-reads
-use mathlib.Core.Path.{_≡_, refl, sym, ap, _∙_}
 use native.Mathlib.Omega.{arith}
-use Prim.Native.Nat.{ℕ, _≤_, _-_, _+_}
-use lib.ListN.{length}
-use Rattle.rules.specs.Sheet.{Records, encode}
+use Prim.Native.Nat.{_-_}
 use Rattle.sheet.specs.Order.{underscoredIf}
 use Rattle.sheet.specs.Find.{Level, Seeking, seek-start, sought, sought-at, seek-end, seek-found, seek-passed, seek-on, item-body, item-has-body, item-holding, item-has, item-rest}
 

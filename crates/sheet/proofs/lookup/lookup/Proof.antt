@@ -5,10 +5,10 @@ use Rattle.sheet.proofs.lookup.lookup.Reads as reads
 use Rattle.sheet.proofs.lookup.lookup.Lts as lts
 use Rattle.scan.proofs.span.Reads as span-reads
 use Rattle.sheet.proofs.lookup.find.Reads as find-reads
-use mathlib.Core.Path.{_≡_, refl, sym, ap, _∙_}
+use mathlib.Core.Path.{_≡_, ap}
 use mathlib.Core.Bool.{true}
 use native.Mathlib.Omega.{arith}
-use Prim.Native.Nat.{ℕ, _≤_, _-_, _+_}
+use Prim.Native.Nat.{ℕ, _≤_, _-_}
 use lib.ListN.{length}
 use Rattle.rules.specs.Bytes.{word}
 use Rattle.rules.specs.Sheet.{Records, encode, goodRecords}

@@ -4,8 +4,7 @@ use Rattle.sheet.proofs.lookup.order.Tie as tie
 use Rattle.sheet.proofs.lookup.order.Reads as reads
 use Rattle.sheet.proofs.lookup.order.Lts as lts
 use Rattle.sheet.proofs.lookup.underscored_if.Reads as underscored-if-reads
-use native.Mathlib.Omega.{arith}
-use Prim.Native.Nat.{ℕ, _≤_, _-_}
+use Prim.Native.Nat.{_-_}
 use lib.ListN.{length}
 use Rattle.sheet.specs.Order.{underscoredIf, Ordering, ordering-start, ordering-over, ordering-under, ordering-end, ordering-less, ordering-more, ordering-on}
 

@@ -4,12 +4,11 @@ use Rattle.sheet.proofs.lookup.skip.Tie as tie
 use Rattle.sheet.proofs.lookup.skip.Reads as reads
 use Rattle.sheet.proofs.lookup.skip.Lts as lts
 use Rattle.sheet.proofs.lookup.item.Reads as item-reads
-use mathlib.Core.Path.{_≡_, refl, sym, ap, _∙_}
 use native.Mathlib.Omega.{arith}
-use Prim.Native.Nat.{ℕ, _≤_, _-_}
+use Prim.Native.Nat.{ℕ, _-_}
 use lib.ListN.{length}
 use Rattle.rules.specs.Sheet.{Records}
-use Rattle.sheet.specs.Items.{Holding, Has, Left, First, first, first-at, left-small, left-on, left-end}
+use Rattle.sheet.specs.Items.{Holding, Left, first, first-at, left-small, left-on, left-end}
 
 abbrev Inv-loop : tie.InvT-loop
 Inv-loop s at count i₀ remaining₀ i remaining = (r : Records) (j : ℕ) → Holding s at count r j → Left s i remaining j

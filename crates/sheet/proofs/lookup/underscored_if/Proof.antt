@@ -1,4 +1,3 @@
-use borrow.Author.Needs.{needs}
 use Rattle.sheet.proofs.lookup.underscored_if.Statement.{statement}
 use Rattle.sheet.proofs.lookup.underscored_if.Tie as tie
 use Rattle.sheet.proofs.lookup.underscored_if.Reads as reads

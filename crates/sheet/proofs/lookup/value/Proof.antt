@@ -1,10 +1,8 @@
-use borrow.Author.Needs.{needs}
 use Rattle.sheet.proofs.lookup.value.Statement.{statement}
 use Rattle.sheet.proofs.lookup.value.Tie as tie
 use Rattle.sheet.proofs.lookup.value.Reads as reads
 use Rattle.sheet.proofs.lookup.value.Lts as lts
 use Rattle.sheet.proofs.lookup.skip.Reads as skip-reads
-use mathlib.Core.Path.{_≡_, refl, sym, ap, _∙_}
 use Rattle.sheet.specs.Find.{gives-none, gives-text, gives-dictionary, body-has, body-holding}
 
 returns : tie.Need-returns
