@@ -118,13 +118,13 @@ mask-bit k m = rw (and-high m 1 k) (go (m / 2 ^ k % 2) (mod-lt (m / 2 ^ k) (omeg
     go (suc zero) h = rw (one-mul, ne-eqb (2 ^ k) 0 (λ e. absurd (omega (arith, pow-pos k))))
     go (suc (suc d)) h = absurd (omega arith)
 
--- A map byte holds only the lowest k bits.
-pub mask-low : (k m : ℕ) → eqb (bitAnd m (2 ^ k - 1)) m ≡ ltb m (2 ^ k)
-mask-low k m = rw (and-mask m k) (go (ltb m (2 ^ k)) refl)
+-- A map byte holds only the lowest k bits, and a bit of a field.
+pub map-allowed : (k m : ℕ) {s t : Bool} → s ≡ t → (eqb (bitAnd m (2 ^ k - 1)) m && s) ≡ (ltb m (2 ^ k) && t)
+map-allowed k m e = rw (e, and-mask m k, go (ltb m (2 ^ k)) refl) refl
   where
-    go : (c : Bool) → ltb m (2 ^ k) ≡ c → eqb (m % 2 ^ k) m ≡ c
-    go true h = eq-eqb (m % 2 ^ k) m (mod-eq-of-lt (ltb-true m (2 ^ k) h))
-    go false h = ne-eqb (m % 2 ^ k) m (λ e. absurd (omega (arith, ltb-false m (2 ^ k) h, mod-lt m (pow-pos k))))
+    go : (c : Bool) → ltb m (2 ^ k) ≡ c → eqb (m % 2 ^ k) m ≡ ltb m (2 ^ k)
+    go true h = eq-eqb (m % 2 ^ k) m (mod-eq-of-lt (ltb-true m (2 ^ k) h)) ∙ sym h
+    go false h = ne-eqb (m % 2 ^ k) m (λ e. absurd (omega (arith, ltb-false m (2 ^ k) h, mod-lt m (pow-pos k)))) ∙ sym h
 
 -- Up to the first `/` is all.
 pub slash-free : (t : List ℕ) (r : ℕ) → Spans (but "/") t 0 r → eqb r (length t) ≡ not (holds "/" t)
