@@ -1,4 +1,1 @@
-pub mod Reference
-pub mod Call
-pub mod Step
 pub mod Run

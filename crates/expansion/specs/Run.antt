@@ -24,10 +24,10 @@ use Rattle.buffers.specs.Put.{Put}
 use Rattle.buffers.specs.Laws.{put-length}
 use Rattle.buffers.specs.Emits.{Emits, guard, guarded, Going, going-start, going-same, going-on, going-no, going-end, emits-put}
 use Rattle.buffers.specs.Copies.{afterAll, copied, Copied, copied-part, afterAll-same}
-use Rattle.expansion.specs.declared.step.Stepped.{Stepped}
+use Rattle.expansion_steps.specs.declared.step.Stepped.{Stepped}
 use Rattle.expansion.specs.declared.Expanded.{Expanded}
 use Rattle.binding.specs.Use.{within-limit, Holds, holds-sheet, Keeps, keeps-holds}
-use Rattle.expansion.specs.Step.{Took, Steps}
+use Rattle.expansion_steps.specs.Step.{Took, Steps}
 
 -- What expanding t, from the records s on, came to: what is written, or 9; and, if all is written, whether each step is whole, and the
 -- records that m holds.

@@ -1,4 +1,4 @@
-// The expansion (document 01, section 5).
+// The run of the expansion (document 01, section 5): plain text, and the step at each `#`.
 ghost use mathlib.Core.Path.{_≡_};
 ghost use mathlib.Core.Bool.{true};
 ghost use Prim.Native.Nat.{_≤_};
@@ -11,19 +11,6 @@ ghost use Rattle.rules.specs.Laws.Bool.{isSome};
 ghost use Rattle.bundle.specs.Find.{entriesOf};
 ghost use Rattle.binding.specs.Use.{Keeps};
 ghost use Rattle.expansion.specs.Run.{Expands};
-
-pub mod call_steps;
-pub mod reference;
-pub mod step;
-
-// What a step that writes came to: has all been written; if not, the refusal's number; is it whole (section 6); where reading goes on, and the writer.
-pub struct WriteStep {
-    pub ok: bool,
-    pub number: u8,
-    pub whole: bool,
-    pub at: usize,
-    pub next: usize,
-}
 
 // What expanding a text came to: has all been written and the sheet stayed within its limit; if not, the refusal's number; where the
 // writer goes on and the sheet's length; and, if all has been written, whether each step is whole (section 6).
@@ -75,7 +62,7 @@ pub fn expand(
                 whole: whole,
             };
         }
-        let s = step::step(b, text, at, out, q, left, len, limit, full);
+        let s = expansion_steps::step::step(b, text, at, out, q, left, len, limit, full);
         if !s.ok {
             return Expanded {
                 ok: false,

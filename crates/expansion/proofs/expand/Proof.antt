@@ -4,7 +4,7 @@ use Rattle.expansion.proofs.expand.Tie as tie
 use Rattle.expansion.proofs.expand.Reads as reads
 use Rattle.expansion.proofs.expand.Lts as lts
 use Rattle.buffers.proofs.put.Reads as put-reads
-use Rattle.expansion.proofs.step.step.Reads as step-reads
+use Rattle.expansion_steps.proofs.step.step.Reads as step-reads
 use Rattle.scan.proofs.find.Reads as find-reads
 use mathlib.Core.Path.{_∙_}
 use lib.ListN.{length}

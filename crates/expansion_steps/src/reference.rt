@@ -5,7 +5,7 @@ ghost use Prim.Native.Nat.{_≤_};
 ghost use lib.ListN.{length};
 ghost use Rattle.buffers.specs.Put.{Writer};
 ghost use Rattle.sheet.specs.Find.{IsSheet};
-ghost use Rattle.expansion.specs.Reference.{Refers};
+ghost use Rattle.expansion_steps.specs.Reference.{Refers};
 
 // `#`: copied before a byte that is no letter, and before a run and `(`, with the run; else puts the text of the run's reference.
 pub fn reference_step(

@@ -1,8 +1,8 @@
 use borrow.Author.Needs.{needs}
-use Rattle.expansion.proofs.reference.reference_step.Statement.{statement}
-use Rattle.expansion.proofs.reference.reference_step.Tie as tie
-use Rattle.expansion.proofs.reference.reference_step.Reads as reads
-use Rattle.expansion.proofs.reference.reference_step.Lts as lts
+use Rattle.expansion_steps.proofs.reference.reference_step.Statement.{statement}
+use Rattle.expansion_steps.proofs.reference.reference_step.Tie as tie
+use Rattle.expansion_steps.proofs.reference.reference_step.Reads as reads
+use Rattle.expansion_steps.proofs.reference.reference_step.Lts as lts
 use Rattle.buffers.proofs.put.Reads as put-reads
 use Rattle.buffers.proofs.put_byte.Reads as put-byte-reads
 use Rattle.scan.proofs.at.Reads as at-reads
@@ -13,7 +13,7 @@ use borrow.Author.Tests.{not-true, not-false}
 use Rattle.buffers.specs.Laws.{put-writer}
 use mathlib.Core.Path.{refl}
 use Rattle.scan.specs.Laws.{sees-the}
-use Rattle.expansion.specs.Reference.{refers-other, refers-called, refers-text}
+use Rattle.expansion_steps.specs.Reference.{refers-other, refers-called, refers-text}
 
 sees-requires : tie.Need-sees-requires
 sees-requires c κs = search needs

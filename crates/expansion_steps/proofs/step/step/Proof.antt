@@ -1,9 +1,9 @@
 use borrow.Author.Needs.{needs}
-use Rattle.expansion.proofs.step.step.Statement.{statement}
-use Rattle.expansion.proofs.step.step.Tie as tie
-use Rattle.expansion.proofs.step.step.Reads as reads
-use Rattle.expansion.proofs.step.step.Lts as lts
-use Rattle.expansion.proofs.step.writing_step.Reads as writing-step-reads
+use Rattle.expansion_steps.proofs.step.step.Statement.{statement}
+use Rattle.expansion_steps.proofs.step.step.Tie as tie
+use Rattle.expansion_steps.proofs.step.step.Reads as reads
+use Rattle.expansion_steps.proofs.step.step.Lts as lts
+use Rattle.expansion_steps.proofs.step.writing_step.Reads as writing-step-reads
 use Rattle.let_steps.proofs.import_step.Reads as import-step-reads
 use Rattle.let_steps.proofs.let_step.Reads as let-step-reads
 use Rattle.scan.proofs.starts_with.Reads as starts-with-reads
@@ -11,7 +11,7 @@ use mathlib.Core.Path.{refl, sym}
 use lib.Seq.{length-take-le}
 use native.Mathlib.Omega.{arith}
 use Rattle.scan.specs.Laws.{starts-as}
-use Rattle.expansion.specs.Step.{steps-import, steps-let, steps-writes}
+use Rattle.expansion_steps.specs.Step.{steps-import, steps-let, steps-writes}
 
 slice-aggregate-starts-with : tie.Need-slice-aggregate-starts-with
 slice-aggregate-starts-with c = search needs

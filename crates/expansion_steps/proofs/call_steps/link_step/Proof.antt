@@ -1,18 +1,18 @@
 use borrow.Author.Needs.{needs}
-use Rattle.expansion.proofs.call_steps.link_step.Statement.{statement}
-use Rattle.expansion.proofs.call_steps.link_step.Tie as tie
-use Rattle.expansion.proofs.call_steps.link_step.Reads as reads
-use Rattle.expansion.proofs.call_steps.link_step.Lts as lts
+use Rattle.expansion_steps.proofs.call_steps.link_step.Statement.{statement}
+use Rattle.expansion_steps.proofs.call_steps.link_step.Tie as tie
+use Rattle.expansion_steps.proofs.call_steps.link_step.Reads as reads
+use Rattle.expansion_steps.proofs.call_steps.link_step.Lts as lts
 use Rattle.link_call.proofs.link.Reads as link-reads
-use Rattle.expansion.proofs.call_steps.end_call.Reads as end-call-reads
-use Rattle.expansion.proofs.call_steps.show.Reads as show-reads
+use Rattle.expansion_steps.proofs.call_steps.end_call.Reads as end-call-reads
+use Rattle.expansion_steps.proofs.call_steps.show.Reads as show-reads
 use Rattle.scan.proofs.at.Reads as at-reads
 use Rattle.scan.proofs.span.Reads as span-reads
 use mathlib.Core.Path.{refl, _∙_}
 use native.Mathlib.Omega.{arith}
 use borrow.Author.Tests.{not-true, not-false}
 use Rattle.rules.specs.Reader.{bytes}
-use Rattle.expansion.specs.Call.{step-plain, step-call}
+use Rattle.expansion_steps.specs.Call.{step-plain, step-call}
 
 add-span : tie.Need-add-span
 add-span c =

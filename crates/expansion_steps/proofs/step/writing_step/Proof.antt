@@ -1,15 +1,15 @@
 use borrow.Author.Needs.{needs}
-use Rattle.expansion.proofs.step.writing_step.Statement.{statement}
-use Rattle.expansion.proofs.step.writing_step.Tie as tie
-use Rattle.expansion.proofs.step.writing_step.Reads as reads
-use Rattle.expansion.proofs.step.writing_step.Lts as lts
-use Rattle.expansion.proofs.call_steps.link_step.Reads as link-step-reads
-use Rattle.expansion.proofs.call_steps.raw_step.Reads as raw-step-reads
-use Rattle.expansion.proofs.reference.reference_step.Reads as reference-step-reads
+use Rattle.expansion_steps.proofs.step.writing_step.Statement.{statement}
+use Rattle.expansion_steps.proofs.step.writing_step.Tie as tie
+use Rattle.expansion_steps.proofs.step.writing_step.Reads as reads
+use Rattle.expansion_steps.proofs.step.writing_step.Lts as lts
+use Rattle.expansion_steps.proofs.call_steps.link_step.Reads as link-step-reads
+use Rattle.expansion_steps.proofs.call_steps.raw_step.Reads as raw-step-reads
+use Rattle.expansion_steps.proofs.reference.reference_step.Reads as reference-step-reads
 use Rattle.scan.proofs.starts_with.Reads as starts-with-reads
 use mathlib.Core.Path.{refl}
 use Rattle.scan.specs.Laws.{starts-as}
-use Rattle.expansion.specs.Step.{writes-raw, writes-link, writes-reference}
+use Rattle.expansion_steps.specs.Step.{writes-raw, writes-link, writes-reference}
 
 slice-aggregate-starts-with : tie.Need-slice-aggregate-starts-with
 slice-aggregate-starts-with c = search needs

@@ -16,7 +16,7 @@ ghost use Rattle.rules.specs.Laws.Bool.{isSome};
 ghost use Rattle.scan.specs.Sets.{part, Starts};
 ghost use Rattle.bundle.specs.Find.{entriesOf};
 ghost use Rattle.sheet.specs.Find.{IsSheet};
-ghost use Rattle.expansion.specs.Call.{Shows, Ends, StepsBy};
+ghost use Rattle.expansion_steps.specs.Call.{Shows, Ends, StepsBy};
 
 // Outputs the mark and the blanks behind it, from `at` to `end`, and goes on there.
 fn show(

@@ -20,7 +20,7 @@ use Rattle.buffers.specs.Emits.{Emits, emits-put, emits-fills}
 use Rattle.calls.specs.declared.Outcome.the-variants.{HandedBack, Refused, Output}
 use Rattle.calls.specs.declared.Called.{Called}
 use Rattle.calls.specs.Called.{Says, Calls}
-use Rattle.expansion.specs.declared.WriteStep.{WriteStep}
+use Rattle.expansion_steps.specs.declared.WriteStep.{WriteStep}
 
 -- The text v is output, and reading goes on at e.
 pub record Shows (full : ℕ) (v : List ℕ) (e : ℕ) (w : Bool) (b : List ℕ) (p : ℕ) (c : List ℕ) (r : WriteStep) : Type 0 where

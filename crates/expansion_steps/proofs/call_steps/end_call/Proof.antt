@@ -1,10 +1,10 @@
 use borrow.Author.Needs.{needs}
-use Rattle.expansion.proofs.call_steps.end_call.Statement.{statement}
-use Rattle.expansion.proofs.call_steps.end_call.Tie as tie
-use Rattle.expansion.proofs.call_steps.end_call.Reads as reads
-use Rattle.expansion.proofs.call_steps.end_call.Lts as lts
-use Rattle.expansion.proofs.call_steps.show.Reads as show-reads
-use Rattle.expansion.specs.Call.{ends-back, ends-refused, ends-output}
+use Rattle.expansion_steps.proofs.call_steps.end_call.Statement.{statement}
+use Rattle.expansion_steps.proofs.call_steps.end_call.Tie as tie
+use Rattle.expansion_steps.proofs.call_steps.end_call.Reads as reads
+use Rattle.expansion_steps.proofs.call_steps.end_call.Lts as lts
+use Rattle.expansion_steps.proofs.call_steps.show.Reads as show-reads
+use Rattle.expansion_steps.specs.Call.{ends-back, ends-refused, ends-output}
 
 enum-told : tie.Need-enum-told
 enum-told c = search needs

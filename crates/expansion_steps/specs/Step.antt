@@ -15,13 +15,13 @@ use Rattle.scan.specs.Sets.{Starts}
 use Rattle.scan.specs.Laws.{mark-yes, mark-no}
 use Rattle.buffers.specs.Emits.{Emits, emits-ok, guard, guard-no}
 use Rattle.sheet.specs.Find.{IsSheet}
-use Rattle.expansion.specs.declared.WriteStep.{WriteStep}
+use Rattle.expansion_steps.specs.declared.WriteStep.{WriteStep}
 use Rattle.let_steps.specs.declared.Let.{Let}
-use Rattle.expansion.specs.declared.step.Stepped.{Stepped}
+use Rattle.expansion_steps.specs.declared.step.Stepped.{Stepped}
 use Rattle.binding.specs.Use.{within-limit, Holds, holds-sheet}
 use Rattle.let_steps.specs.Let.{Imports, Lets}
-use Rattle.expansion.specs.Reference.{Refers}
-use Rattle.expansion.specs.Call.{Does, StepsBy}
+use Rattle.expansion_steps.specs.Reference.{Refers}
+use Rattle.expansion_steps.specs.Call.{Does, StepsBy}
 
 -- At `at` stands a `#` that begins neither `#import` nor `#let`.
 pub record Unbound (t : List ℕ) (at : ℕ) : Type 0 where

@@ -18,7 +18,7 @@ ghost use Rattle.scan.specs.Sets.{Starts};
 ghost use Rattle.bundle.specs.Find.{entriesOf};
 ghost use Rattle.sheet.specs.Find.{IsSheet};
 ghost use Rattle.binding.specs.Use.{Keeps};
-ghost use Rattle.expansion.specs.Step.{Unbound, WritesAt, Steps};
+ghost use Rattle.expansion_steps.specs.Step.{Unbound, WritesAt, Steps};
 
 // The step at a `#` that begins neither `#import` nor `#let`: it keeps the sheet.
 fn writing_step(

@@ -16,7 +16,7 @@ use Rattle.sheet.specs.Find.{IsSheet}
 use Rattle.buffers.specs.Put.{Put, Writer}
 use Rattle.buffers.specs.Laws.{put-then, put-length}
 use Rattle.buffers.specs.Emits.{Emits, emits-put}
-use Rattle.expansion.specs.declared.WriteStep.{WriteStep}
+use Rattle.expansion_steps.specs.declared.WriteStep.{WriteStep}
 
 -- The step writes a text, and keeps the records.
 pub record Puts (t : List ℕ) (at : ℕ) (s : Records) (full room : ℕ) (b : List ℕ) (p : ℕ) (c : List ℕ) (r : WriteStep) : Type 0 where

@@ -1,10 +1,10 @@
 use borrow.Author.Needs.{needs}
-use Rattle.expansion.proofs.call_steps.show.Statement.{statement}
-use Rattle.expansion.proofs.call_steps.show.Tie as tie
-use Rattle.expansion.proofs.call_steps.show.Reads as reads
-use Rattle.expansion.proofs.call_steps.show.Lts as lts
+use Rattle.expansion_steps.proofs.call_steps.show.Statement.{statement}
+use Rattle.expansion_steps.proofs.call_steps.show.Tie as tie
+use Rattle.expansion_steps.proofs.call_steps.show.Reads as reads
+use Rattle.expansion_steps.proofs.call_steps.show.Lts as lts
 use Rattle.buffers.proofs.put.Reads as put-reads
-use Rattle.expansion.specs.Call.{shows}
+use Rattle.expansion_steps.specs.Call.{shows}
 
 sub-put : tie.Need-sub-put
 sub-put c = search needs
