@@ -23,7 +23,6 @@ use Rattle.marks.specs.declared.Found.{Found}
 use Rattle.marks.specs.declared.Found.the-variants.{Nothing}
 use Rattle.marked_files.specs.declared.File.{File}
 use Rattle.marked_files.specs.declared.Written.{Written}
-use Rattle.includes.specs.declared.Outcome.{Outcome}
 use Rattle.includes.specs.declared.Resolved.{Resolved}
 use Rattle.marks.specs.declared.read.Reading.{Reading}
 use Rattle.marks.specs.declared.read.Reading.the-variants.{Copied, Include as Included, Source as Shown}
@@ -33,7 +32,7 @@ use Rattle.scan.specs.Sets.{part}
 use Rattle.marks.specs.Ahead.{KnowsAll}
 use Rattle.marks.specs.Marks.{NextMark, markText, mark-some, stretch, plain}
 use Rattle.marks.specs.Read.{emitOf, Within, Reads}
-use Rattle.marked_files.specs.Files.{refusedFile, OpensFile, EndsLine, emits-line}
+use Rattle.marked_files.specs.Files.{OpensFile, EndsLine, emits-line}
 
 -- What writing a run's text came to; and is each of its steps whole.
 pub record Resolves (full room : ℕ) (t : Trace (List ℕ)) (b : List ℕ) (p : ℕ) (c : List ℕ) (fine : Bool) (number q : ℕ) (w : Bool) : Type 0 where
@@ -46,10 +45,6 @@ refusedText k q = record { ok = false; number = k; next = q; whole = false }
 
 abbrev pub finishedText : ℕ → Bool → Resolved
 finishedText q w = record { ok = true; number = 0; next = q; whole = w }
-
--- What was written, and no file.
-abbrev pub putOnly : Written → Outcome
-putOnly w = record { written = w; file = refusedFile 0 (replicate 255 0) }
 
 -- THE LOOP. v: the bundle; f: how an included file is resolved; g: the folder; t: the text, resolved up to i.
 module _ (v : View) (f : List ℕ → List ℕ → Emit) (g t : List ℕ) where
@@ -168,58 +163,45 @@ module _ (t : List ℕ) {r : Reading} (w : Within t r) where
   unfolding Within
   within-source e = rw e at w
 
--- What was read is put; or a file is opened, whose text, resolved with one level fewer, is to be put with a newline behind it.
-pub record Handles (v : View) (levels : ℕ) (g t : List ℕ) (r : Reading) (z : List ℕ) (full room : ℕ) (c : List ℕ) (p : ℕ) (d : List ℕ) (o : Outcome) : Type 0 where
+unfoldable pub isInclude : Reading → Bool
+isInclude (Copied a b) = false
+isInclude (Included a b) = true
+isInclude (Shown a b c d) = false
+
+-- What was read is put; nothing, where a file is to be included.
+pub record PutsRead (v : View) (g t : List ℕ) (r : Reading) (full room : ℕ) (c : List ℕ) (p : ℕ) (d : List ℕ) (w : Written) : Type 0 where
   pub size : length d ≡ length c
-  pub order : o .file .start ≤ o .file .end
-  pub inside : o .file .end ≤ length z
-  pub short : o .file .parent ≤ length (o .file .bytes)
-  pub puts : o .file .ok ≡ false → Emits full room (emitOf v (insideFile v levels) g t r) c p d (o .written .ok) (o .written .number) (o .written .next)
-  pub left : o .file .ok ≡ true → 0 < levels
-  pub keeps : o .file .ok ≡ true → d ≡ c
-  pub opens : o .file .ok ≡ true → emitOf v (insideFile v levels) g t r ≡ andThen (emitted (run (includeStep v (insideFile v (levels - 1)) (take (o .file .parent) (o .file .bytes))) [] 0 (part z (o .file .start) (o .file .end)))) (put (bytes "\n") ok)
+  pub none : isInclude r ≡ true → d ≡ c
+  pub puts : isInclude r ≡ false → (f : List ℕ → List ℕ → Emit) → Emits full room (emitOf v f g t r) c p d (w .ok) (w .number) (w .next)
 
-module _ (v : View) (levels : ℕ) (g t : List ℕ) {r : Reading} (z : List ℕ) {full room : ℕ} {c : List ℕ} {p : ℕ} where
-  -- Put, and no file.
-  handled-put : {d : List ℕ} {y : Bool} {n q : ℕ} → Emits full room (emitOf v (insideFile v levels) g t r) c p d y n q → Handles v levels g t r z full room c p d (putOnly (record { ok = y; number = n; next = q }))
-  handled-put s = record {
-    size = s .size;
-    order = omega arith;
-    inside = omega arith;
-    short = omega arith;
-    puts = λ w. s;
-    left = λ w. absurd (true≢false (sym w));
-    keeps = λ w. absurd (true≢false (sym w));
-    opens = λ w. absurd (true≢false (sym w));
-  }
+module _ (v : View) (g t : List ℕ) {r : Reading} {full room : ℕ} {c : List ℕ} {p : ℕ} where
+  pub put-copied : {a b : ℕ} → r ≡ Copied a b → p ≤ room → {d : List ℕ} {q : ℕ} → Put room c p (part t a b) d q → PutsRead v g t r full room c p d (record { ok = leb q room; number = full; next = q })
+  unfolding emitOf isInclude
+  put-copied e h s = record { size = put-length s; none = λ i. absurd (true≢false (sym i ∙ ap isInclude e)); puts = λ i f. rw e (emits-put {full = full} h s) }
 
-  pub handled-copied : {a b : ℕ} → r ≡ Copied a b → p ≤ room → {d : List ℕ} {q : ℕ} → Put room c p (part t a b) d q → Handles v levels g t r z full room c p d (putOnly (record { ok = leb q room; number = full; next = q }))
-  unfolding emitOf
-  handled-copied e h s = handled-put (rw e (emits-put {full = full} h s))
+  pub put-source : {a b i j : ℕ} → r ≡ Shown a b i j → {d : List ℕ} {w : Written} → Emits full room (fenced (part t i j) (opened v (join (projectRoot v g) (part t a b)))) c p d (w .ok) (w .number) (w .next) → PutsRead v g t r full room c p d w
+  unfolding emitOf isInclude
+  put-source e s = record { size = s .size; none = λ i. absurd (true≢false (sym i ∙ ap isInclude e)); puts = λ i f. rw e s }
 
-  pub handled-source : {a b i j : ℕ} → r ≡ Shown a b i j → {d : List ℕ} {w : Written} → Emits full room (fenced (part t i j) (opened v (join (projectRoot v g) (part t a b)))) c p d (w .ok) (w .number) (w .next) → Handles v levels g t r z full room c p d (putOnly w)
-  unfolding emitOf
-  handled-source e s = handled-put (rw e s)
+  pub put-nothing : {a b : ℕ} → r ≡ Included a b → {w : Written} → PutsRead v g t r full room c p c w
+  unfolding isInclude
+  put-nothing e = record { size = refl; none = λ i. refl; puts = λ i f. absurd (true≢false (sym (ap isInclude e) ∙ i)) }
 
-  -- A file, opened or refused.
-  pub handled-file : {a b : ℕ} → r ≡ Included a b → {f : File} → OpensFile v levels z (join g (part t a b)) f → Handles v levels g t r z full room c p c (record { written = record { ok = f .ok; number = f .number; next = p }; file = f })
-  unfolding emitOf
-  handled-file e {f} k = record {
-    size = refl;
-    order = k .order;
-    inside = k .inside;
-    short = k .short;
-    puts = λ w. rw (e, k .stops w g, w) (emits-fail full room c p (f .number) p);
-    left = k .left;
-    keeps = λ w. refl;
-    opens = λ w. rw e (k .goes w g);
-  }
+-- What a mark came to, w: put at once; or its file refused; or its file's text resolved, and a newline put.
+module _ {v : View} (levels : ℕ) {g t : List ℕ} {r : Reading} {full room : ℕ} {c : List ℕ} {p : ℕ} {d : List ℕ} {o : Written} (H : PutsRead v g t r full room c p d o) where
+  pub came-put : isInclude r ≡ false → {e : List ℕ} {w : Written} → e ≡ d → w ≡ o → Emits full room (emitOf v (insideFile v levels) g t r) c p e (w .ok) (w .number) (w .next)
+  came-put h x y = rw (x, y) (H .puts h (insideFile v levels))
 
--- What a mark came to, w: put at once; or its file's text resolved, and a newline put.
-module _ {v : View} {levels : ℕ} {g t : List ℕ} {r : Reading} {z : List ℕ} {full room : ℕ} {c : List ℕ} {p : ℕ} {d : List ℕ} {o : Outcome} (H : Handles v levels g t r z full room c p d o) {e : List ℕ} {w : Written} where
-  pub came-put : o .file .ok ≡ false → e ≡ d → w ≡ o .written → Emits full room (emitOf v (insideFile v levels) g t r) c p e (w .ok) (w .number) (w .next)
-  came-put h x y = rw (x, y) (H .puts h)
+  module _ {a b : ℕ} (i : r ≡ Included a b) {z : List ℕ} {f : File} (O : OpensFile v levels z (join g (part t a b)) f) where
+    untouched : d ≡ c
+    unfolding isInclude
+    untouched = H .none (ap isInclude i)
 
-  pub came-inside : p ≤ room → o .file .ok ≡ true → {i : List ℕ} {s : Resolved} → Resolves full room (run (includeStep v (insideFile v (levels - 1)) (take (o .file .parent) (o .file .bytes))) [] 0 (part z (o .file .start) (o .file .end))) d p i (s .ok) (s .number) (s .next) (s .whole) →
-      {u : List ℕ} {l : Written} → EndsLine (s .ok) (s .number) full room i (s .next) u (l .ok) (l .number) (l .next) → e ≡ u → w ≡ l → Emits full room (emitOf v (insideFile v levels) g t r) c p e (w .ok) (w .number) (w .next)
-  came-inside i h {s = s} k n x y = rw (H .opens h, x, y) (emits-line i (rw (H .keeps h) at (k .emits)) n)
+    pub came-refused : {q : ℕ} → f .ok ≡ false → Emits full room (emitOf v (insideFile v levels) g t r) c p d false (f .number) q
+    unfolding emitOf
+    came-refused {q} h = rw (untouched, i, O .stops h g) (emits-fail full room c p (f .number) q)
+
+    pub came-inside : p ≤ room → f .ok ≡ true → {j : List ℕ} {s : Resolved} → Resolves full room (run (includeStep v (insideFile v (levels - 1)) (take (f .parent) (f .bytes))) [] 0 (part z (f .start) (f .end))) d p j (s .ok) (s .number) (s .next) (s .whole) →
+        {u : List ℕ} {l : Written} → EndsLine (s .ok) (s .number) full room j (s .next) u (l .ok) (l .number) (l .next) → {e : List ℕ} {w : Written} → e ≡ u → w ≡ l → Emits full room (emitOf v (insideFile v levels) g t r) c p e (w .ok) (w .number) (w .next)
+    unfolding emitOf
+    came-inside h k {s = s} n m x y = rw (i, O .goes k g, x, y) (emits-line h (rw untouched at (n .emits)) m)

@@ -11,9 +11,8 @@ ghost use Rattle.rules.specs.Includes.{insideFile, includeStep};
 ghost use Rattle.buffers.specs.Put.{Writer};
 ghost use Rattle.rules.specs.Laws.Bool.{isSome};
 ghost use Rattle.bundle.specs.Find.{entriesOf};
-ghost use Rattle.includes.specs.Resolve.{putOnly, Handles, refusedText, finishedText, Resolves};
+ghost use Rattle.includes.specs.Resolve.{PutsRead, refusedText, finishedText, Resolves};
 ghost use Rattle.marks.specs.Read.{Within};
-use marked_files::File;
 use marked_files::Written;
 use marks::Found;
 use marks::read::Reading;
@@ -27,25 +26,8 @@ pub struct Resolved {
     pub whole: bool,
 }
 
-// What came of a mark: what was written; or, where `file` is ok, a file that is to be resolved.
-pub struct Outcome {
-    pub written: Written,
-    pub file: File,
-}
-
-// What was written, and no file.
-fn put_only(w: Written) -> Outcome
-    ensures { λ r. ⌜ r ≡ putOnly w ⌝ }
-{
-    let none = marked_files::refused(0, [0u8; 255]);
-    Outcome {
-        written: w,
-        file: none,
-    }
-}
-
-// Puts what was read at a mark, a copied part or a source's block; or opens an included file, and puts nothing.
-fn put_or_open(
+// Puts what was read at a mark, a copied part or a source's block. For a file that is to be included it puts nothing.
+fn put_read(
     b: &[u8],
     folder: &[u8],
     text: &[u8],
@@ -54,19 +36,18 @@ fn put_or_open(
     room: usize,
     p: usize,
     full: u8,
-    levels: usize,
-) -> Outcome
+) -> Written
     requires { ⌜ (isSome (bundleOf (now b)) ≡ true) × Writer room p × (p ≤ room) × (length (now out) ≤ room) × Within (now text) what ⌝ }
-    ensures { λ r. ⌜ Handles (view (entriesOf (now (b .entry)))) levels (now (folder .entry)) (now (text .entry)) what (now (b .entry)) full room (now (out .entry)) p (now (out .exit)) r ⌝ }
+    ensures { λ r. ⌜ PutsRead (view (entriesOf (now (b .entry)))) (now (folder .entry)) (now (text .entry)) what full room (now (out .entry)) p (now (out .exit)) r ⌝ }
 {
     match what {
         Reading::Copied { from, to } => {
             let q = buffers::put(out, room, p, &text[from..to]);
-            put_only(Written {
+            Written {
                 ok: q <= room,
                 number: full,
                 next: q,
-            })
+            }
         }
         Reading::Source {
             from,
@@ -76,19 +57,13 @@ fn put_or_open(
         } => {
             let path = &text[from..to];
             let lang = &text[start..end];
-            put_only(marked_files::sources::put_source(b, folder, path, lang, out, room, p, full))
+            marked_files::sources::put_source(b, folder, path, lang, out, room, p, full)
         }
-        Reading::Include { from, to } => {
-            let f = marked_files::open_file(b, folder, &text[from..to], levels);
-            Outcome {
-                written: Written {
-                    ok: f.ok,
-                    number: f.number,
-                    next: p,
-                },
-                file: f,
-            }
-        }
+        Reading::Include { from: _, to: _ } => Written {
+            ok: true,
+            number: full,
+            next: p,
+        },
     }
 }
 
@@ -147,10 +122,12 @@ pub fn resolve(
         };
         let r = marks::read::read_mark(text, done, at, mark, known);
         let what = r.what;
-        let o = put_or_open(b, folder, text, what, out, room, q, full, levels);
-        let mut w = o.written;
-        let f = o.file;
-        if f.ok {
+        let mut w = put_read(b, folder, text, what, out, room, q, full);
+        if let Reading::Include { from, to } = what {
+            let f = marked_files::open_file(b, folder, &text[from..to], levels);
+            if !f.ok {
+                return refused(f.number, q);
+            }
             let bytes = f.bytes;
             let parent = f.parent;
             let start = f.start;

@@ -1,14 +1,12 @@
 use borrow.Author.Needs.{needs}
-use Rattle.includes.proofs.put_or_open.Statement.{statement}
-use Rattle.includes.proofs.put_or_open.Tie as tie
-use Rattle.includes.proofs.put_or_open.Reads as reads
-use Rattle.includes.proofs.put_or_open.Lts as lts
+use Rattle.includes.proofs.put_read.Statement.{statement}
+use Rattle.includes.proofs.put_read.Tie as tie
+use Rattle.includes.proofs.put_read.Reads as reads
+use Rattle.includes.proofs.put_read.Lts as lts
 use Rattle.buffers.proofs.put.Reads as put-reads
-use Rattle.marked_files.proofs.open_file.Reads as open-file-reads
 use Rattle.marked_files.proofs.sources.put_source.Reads as put-source-reads
-use Rattle.includes.proofs.put_only.Reads as put-only-reads
 use Rattle.buffers.specs.Laws.{put-length}
-use Rattle.includes.specs.Resolve.{within-copied, within-include, within-source, handled-copied, handled-source, handled-file}
+use Rattle.includes.specs.Resolve.{within-copied, within-source, put-copied, put-source, put-nothing}
 
 enum-known-what : tie.Need-enum-known-what
 enum-known-what c = search needs
@@ -24,9 +22,6 @@ part-put-end c = let h = within-copied _ (c .before .before .before .before .bef
 
 put-requires : tie.Need-put-requires
 put-requires c κs = search needs
-
-put-only-requires : tie.Need-put-only-requires
-put-only-requires c κs = search needs
 
 enum-known-what-2 : tie.Need-enum-known-what-2
 enum-known-what-2 c = search needs
@@ -52,41 +47,26 @@ part-lang-end c = let h = within-source _ (c .before .before .before .before .be
 put-source-requires : tie.Need-put-source-requires
 put-source-requires c κs = search needs
 
-put-only-requires-2 : tie.Need-put-only-requires-2
-put-only-requires-2 c κs = search needs
-
-enum-known-what-3 : tie.Need-enum-known-what-3
-enum-known-what-3 c = search needs
-
-sub-open-file : tie.Need-sub-open-file
-sub-open-file c = let h = within-include _ (c .before .before .before .before .before .before .before .pre .4) (c .before .what3 .given .1) in search needs
-
-part-open-file-start : tie.Need-part-open-file-start
-part-open-file-start c = let h = within-include _ (c .before .before .before .before .before .before .before .pre .4) (c .before .what3 .given .1) in search needs
-
-part-open-file-end : tie.Need-part-open-file-end
-part-open-file-end c = let h = within-include _ (c .before .before .before .before .before .before .before .pre .4) (c .before .what3 .given .1) in search needs
-
-open-file-requires : tie.Need-open-file-requires
-open-file-requires c κs = search needs
+enum-told : tie.Need-enum-told
+enum-told c = search needs
 
 same-length : tie.Need-same-length
-same-length c = put-length (c .before .before .before .put .ensures)
+same-length c = put-length (c .before .before .put .ensures)
 
 returns : tie.Need-returns
-returns c = rw (c .put-only .ensures) (handled-copied _ _ _ _ _ (c .before .before .before .before .before .before .before .what .given .1) (c .before .before .before .before .before .before .before .before .before .before .before .before .before .pre .2) (c .before .before .before .put .ensures))
+returns c = put-copied _ _ _ (c .before .before .before .before .before .before .what .given .1) (c .before .before .before .before .before .before .before .before .before .before .before .before .pre .2) (c .before .before .put .ensures)
 
 same-length-2 : tie.Need-same-length-2
-same-length-2 c = c .before .before .before .put-source .ensures .size
+same-length-2 c = c .before .before .put-source .ensures .size
 
 returns-2 : tie.Need-returns-2
-returns-2 c = rw (c .put-only2 .ensures) (handled-source _ _ _ _ _ (c .before .before .before .before .before .before .before .before .what2 .given .1) (c .before .before .before .put-source .ensures))
+returns-2 c = put-source _ _ _ (c .before .before .before .before .before .before .before .what2 .given .1) (c .before .before .put-source .ensures)
 
 returns-3 : tie.Need-returns-3
-returns-3 c = handled-file _ _ _ _ _ (c .before .before .before .what3 .given .1) (c .open-file .ensures)
+returns-3 c = put-nothing _ _ _ (c .enum-told .given .1)
 
-pub put-or-open-spec : {M : Type 1} → statement M
-put-or-open-spec =
+pub put-read-spec : {M : Type 1} → statement M
+put-read-spec =
     tie.close
     (tie.spec
     enum-known-what
@@ -94,7 +74,6 @@ put-or-open-spec =
     part-put-start
     part-put-end
     put-requires
-    put-only-requires
     enum-known-what-2
     sub-path
     part-path-start
@@ -103,12 +82,7 @@ put-or-open-spec =
     part-lang-start
     part-lang-end
     put-source-requires
-    put-only-requires-2
-    enum-known-what-3
-    sub-open-file
-    part-open-file-start
-    part-open-file-end
-    open-file-requires
+    enum-told
     same-length
     returns
     same-length-2
