@@ -1,4 +1,1 @@
-pub mod Text
-pub mod Laws
-pub mod Files
 pub mod Cleared

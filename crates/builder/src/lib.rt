@@ -1,12 +1,8 @@
 // The public calls. Each meets one equation with its definition in the rules (crates/rules/specs/Calls.antt), for every input:
 // the answer, and the whole contents of every writable buffer, accepted and refused alike.
-use sheet::lookup::Found;
 ghost use mathlib.Core.Path.{_≡_};
 ghost use lib.ListN.{length};
 ghost use Rattle.rules.specs.Calls.{resolveOf, resolveStringOf, resolveIncludesOf, preprocessTypstOf, parseDefinitionsOf, passOf, findFileOf};
-ghost use Rattle.sheet.specs.Find.{foundKind};
-ghost use Rattle.builder.specs.Files.{fileAnswer};
-ghost use Rattle.builder.specs.Text.{TextAt, Gave, Refuses};
 
 // A lookup's answer. Kind: 0 missing, 1 none, 2 text, 3 dictionary.
 #[repr(C)]
@@ -22,99 +18,27 @@ pub struct Text {
     pub len: usize,
 }
 
-// The number of a kind.
-fn kind(found: Found) -> u8
-    ensures { λ r. ⌜ r ≡ foundKind found ⌝ }
-{
-    match found {
-        Found::Missing => 0,
-        Found::None => 1,
-        Found::Text { from: _, to: _ } => 2,
-        Found::Dictionary {
-            from: _,
-            to: _,
-            count: _,
-        } => 3,
-    }
-}
-
 // What a text in a sheet is looked up as: 3, 6.
 pub fn resolve(sheet: &[u8], path: &[u8]) -> Resolved
     ensures { λ r. ⌜ resolveOf (now (sheet .entry)) (now (path .entry)) ≡ record { number = r .number; kind = r .kind } ⌝ }
 {
-    if !sheet_layout::check(sheet) {
-        return Resolved { number: 3, kind: 0 };
-    }
-    if !scan::is_ascii(path) {
-        return Resolved { number: 6, kind: 0 };
-    }
-    let found = sheet::lookup::lookup(sheet, path, false);
+    let r = lookups::resolve(sheet, path);
     Resolved {
-        number: 0,
-        kind: kind(found),
+        number: r.number,
+        kind: r.kind,
     }
-}
-
-// A part of a sheet.
-pub struct Place {
-    pub from: usize,
-    pub to: usize,
-}
-
-// Where the text stands that was found; an empty part where there is none.
-fn text_place(found: Found) -> Place
-    ensures { λ r. ⌜ TextAt found (r .from) (r .to) ⌝ }
-{
-    match found {
-        Found::Text { from, to } => Place { from: from, to: to },
-        Found::Missing => Place { from: 0, to: 0 },
-        Found::None => Place { from: 0, to: 0 },
-        Found::Dictionary {
-            from: _,
-            to: _,
-            count: _,
-        } => Place { from: 0, to: 0 },
-    }
-}
-
-// The refusal of a text: every byte of the buffer zero.
-fn no_text(out: &mut [u8], number: u8) -> Text
-    ensures { λ r. ⌜ Refuses (now (out .entry)) (now (out .exit)) number (r .number) (r .len) ⌝ }
-{
-    buffers::clear_from(out, 0);
-    Text {
-        number: number,
-        len: 0,
-    }
-}
-
-// Puts a text at the start of a buffer, zero behind it, or refuses it: 11.
-fn give(text: &[u8], out: &mut [u8]) -> Text
-    ensures { λ r. ⌜ Gave (now (text .entry)) (length (now (out .entry))) (now (out .exit)) (r .number) (r .len) ⌝ }
-{
-    let n = text.len();
-    if out.len() < n {
-        return no_text(out, 11);
-    }
-    buffers::store(out, 0, text);
-    buffers::clear_from(out, n);
-    Text { number: 0, len: n }
 }
 
 // The text that a text in a sheet is looked up as: 3, 6, 11.
 pub fn resolve_string(sheet: &[u8], path: &[u8], out: &mut [u8]) -> Text
     ensures { λ r. ⌜ resolveStringOf (now (sheet .entry)) (now (path .entry)) (length (now (out .entry))) ≡ record { number = r .number; len = r .len; out = now (out .exit) } ⌝ }
 {
-    if !sheet_layout::check(sheet) {
-        return no_text(out, 3);
+    let given = lookups::resolve_string(sheet, path, out);
+    buffers::clear_from(out, given.len);
+    Text {
+        number: given.number,
+        len: given.len,
     }
-    if !scan::is_ascii(path) {
-        return no_text(out, 6);
-    }
-    let place = text_place(sheet::lookup::lookup(sheet, path, false));
-    let from = place.from;
-    let to = place.to;
-    give(&sheet[from..to], out)
 }
 
 // A text with its includes resolved: 2, 4, 6, then in reading 11, 4, 5, 7, 6.
@@ -220,51 +144,15 @@ pub struct FoundFile {
     pub len: usize,
 }
 
-// The answer of what was found.
-fn found_file(found: bundle::Found) -> FoundFile
-    ensures { λ r. ⌜ fileAnswer found ≡ record { number = r .number; kind = r .kind; start = r .start; len = r .len } ⌝ }
-{
-    match found {
-        bundle::Found::Absent => FoundFile {
-            number: 0,
-            kind: 0,
-            start: 0,
-            len: 0,
-        },
-        bundle::Found::Folder => FoundFile {
-            number: 0,
-            kind: 1,
-            start: 0,
-            len: 0,
-        },
-        bundle::Found::File { start, len } => FoundFile {
-            number: 0,
-            kind: 2,
-            start: start,
-            len: len,
-        },
-    }
-}
-
 // Finds a path in a bundle: 2, 4.
 pub fn find_file(bundle: &[u8], path: &[u8]) -> FoundFile
     ensures { λ r. ⌜ findFileOf (now (bundle .entry)) (now (path .entry)) ≡ record { number = r .number; kind = r .kind; start = r .start; len = r .len } ⌝ }
 {
-    if !bundle_layout::check(bundle) {
-        return FoundFile {
-            number: 2,
-            kind: 0,
-            start: 0,
-            len: 0,
-        };
+    let f = lookups::find_file(bundle, path);
+    FoundFile {
+        number: f.number,
+        kind: f.kind,
+        start: f.start,
+        len: f.len,
     }
-    if !paths::is_path(path) {
-        return FoundFile {
-            number: 4,
-            kind: 0,
-            start: 0,
-            len: 0,
-        };
-    }
-    found_file(bundle::find(bundle, path))
 }

@@ -3,85 +3,23 @@ use Rattle.builder.proofs.resolve_string.Statement.{statement}
 use Rattle.builder.proofs.resolve_string.Tie as tie
 use Rattle.builder.proofs.resolve_string.Reads as reads
 use Rattle.builder.proofs.resolve_string.Lts as lts
-use Rattle.builder.proofs.give.Reads as give-reads
-use Rattle.builder.proofs.no_text.Reads as no-text-reads
-use Rattle.builder.proofs.text_place.Reads as text-place-reads
-use Rattle.scan.proofs.is_ascii.Reads as is-ascii-reads
-use Rattle.sheet_layout.proofs.check.Reads as check-reads
-use Rattle.sheet.proofs.lookup.lookup.Reads as lookup-reads
-use mathlib.Core.Path.{refl, sym, _∙_}
+use Rattle.buffers.proofs.clear_from.Reads as clear-from-reads
+use Rattle.lookups.proofs.resolve_string.Reads as resolve-string-reads
 use native.Mathlib.Omega.{arith}
-use borrow.Author.Tests.{not-true, not-false}
-use Rattle.sheet.specs.Use.{is-sheet}
-use Rattle.builder.specs.Laws.{string-three, string-six, refused-text, string-within, string-gave}
+use Rattle.builder.specs.Cleared.{string-cleared}
 
-check-requires : tie.Need-check-requires
-check-requires c κs = search needs
+resolve-string-requires : tie.Need-resolve-string-requires
+resolve-string-requires c κs = search needs
 
-no-text-requires : tie.Need-no-text-requires
-no-text-requires c κs = search needs
+clear-from-requires : tie.Need-clear-from-requires
+clear-from-requires c κs = omega (arith, c .before .before .before .resolve-string .ensures .fits, c .before .before .before .resolve-string .ensures .size)
 
 same-length : tie.Need-same-length
 same-length c = search needs
 
 returns : tie.Need-returns
-returns c = refused-text _ 3 _ _ _ _ _ (string-three _ _ _ (sym (c .before .before .before .before .before .check .ensures) ∙ not-true _ (c .before .before .before .before .if1 .taken))) refl (c .before .before .no-text .ensures)
-
-is-ascii-requires : tie.Need-is-ascii-requires
-is-ascii-requires c κs = search needs
-
-no-text-requires-2 : tie.Need-no-text-requires-2
-no-text-requires-2 c κs = search needs
-
-same-length-2 : tie.Need-same-length-2
-same-length-2 c = search needs
-
-returns-2 : tie.Need-returns-2
-returns-2 c = refused-text _ 6 _ _ _ _ _ (string-six (c .before .before .before .before .before .before .before .before .before .before .before .args .sheet .now) _ _ (λ i. omega (arith, c .before .before .before .before .before .before .before .before .before .before .shared-slice-known .given i)) (sym (c .before .before .before .before .before .before .before .check .ensures) ∙ not-false _ (c .before .before .before .before .before .before .if1 .left)) (sym (c .before .before .before .before .before .is-ascii .ensures) ∙ not-true _ (c .before .before .before .before .if2 .taken))) refl (c .before .before .no-text2 .ensures)
-
-lookup-requires : tie.Need-lookup-requires
-lookup-requires c κs = is-sheet (c .before .before .before .before .before .before .before .args .sheet .now) (λ i. omega (arith, c .before .before .before .before .before .before .shared-slice-known .given i)) (sym (c .before .before .before .check .ensures) ∙ not-false _ (c .before .before .if1 .left))
-
-text-place-requires : tie.Need-text-place-requires
-text-place-requires c κs = search needs
-
-sub-give : tie.Need-sub-give
-sub-give c = (string-within (c .before .before .before .before .before .before .before .before .before .args .sheet .now) _ (λ i. omega (arith, c .before .before .before .before .before .before .before .before .shared-slice-known .given i)) (sym (c .before .before .before .before .before .check .ensures) ∙ not-false _ (c .before .before .before .before .if1 .left)) _ (c .before .lookup .ensures) _ _ (c .text-place .ensures)) .on
-
-part-give-start : tie.Need-part-give-start
-part-give-start c = (string-within (c .before .before .before .before .before .before .before .before .before .args .sheet .now) _ (λ i. omega (arith, c .before .before .before .before .before .before .before .before .shared-slice-known .given i)) (sym (c .before .before .before .before .before .check .ensures) ∙ not-false _ (c .before .before .before .before .if1 .left)) _ (c .before .lookup .ensures) _ _ (c .text-place .ensures)) .on
-
-part-give-end : tie.Need-part-give-end
-part-give-end c = (string-within (c .before .before .before .before .before .before .before .before .before .args .sheet .now) _ (λ i. omega (arith, c .before .before .before .before .before .before .before .before .shared-slice-known .given i)) (sym (c .before .before .before .before .before .check .ensures) ∙ not-false _ (c .before .before .before .before .if1 .left)) _ (c .before .lookup .ensures) _ _ (c .text-place .ensures)) .inside
-
-give-requires : tie.Need-give-requires
-give-requires c κs = search needs
-
-same-length-3 : tie.Need-same-length-3
-same-length-3 c = search needs
-
-returns-3 : tie.Need-returns-3
-returns-3 c =
-    let w = string-within (c .before .before .before .before .before .before .before .before .before .before .before .before .before .before .args .sheet .now) _ (λ i. omega (arith, c .before .before .before .before .before .before .before .before .before .before .before .before .before .shared-slice-known .given i)) (sym (c .before .before .before .before .before .before .before .before .before .before .check .ensures) ∙ not-false _ (c .before .before .before .before .before .before .before .before .before .if1 .left)) _ (c .before .before .before .before .before .before .lookup .ensures) _ _ (c .before .before .before .before .before .text-place .ensures) in
-    string-gave (c .before .before .before .before .before .before .before .before .before .before .before .before .before .before .args .sheet .now) _ (λ i. omega (arith, c .before .before .before .before .before .before .before .before .before .before .before .before .before .shared-slice-known .given i)) (sym (c .before .before .before .before .before .before .before .before .before .before .check .ensures) ∙ not-false _ (c .before .before .before .before .before .before .before .before .before .if1 .left)) _ (c .before .before .before .before .before .before .lookup .ensures) _ _ _ _ _ (sym (c .before .before .before .before .before .before .before .before .is-ascii .ensures) ∙ not-false _ (c .before .before .before .before .before .before .before .if2 .left)) (w .text) (c .before .before .give .ensures)
+returns c = string-cleared (c .before .before .before .before .before .before .resolve-string .ensures) (c .before .before .clear-from .ensures)
 
 pub resolve-string-spec : {M : Type 1} → statement M
 resolve-string-spec =
-    tie.close
-    (tie.spec
-    check-requires
-    no-text-requires
-    same-length
-    returns
-    is-ascii-requires
-    no-text-requires-2
-    same-length-2
-    returns-2
-    lookup-requires
-    text-place-requires
-    sub-give
-    part-give-start
-    part-give-end
-    give-requires
-    same-length-3
-    returns-3)
+    tie.close (tie.spec resolve-string-requires clear-from-requires same-length returns)

@@ -4,6 +4,7 @@ use mathlib.Core.List.{List}
 use mathlib.Core.Bool.{true, false}
 use mathlib.Core.Option.{Option, none}
 use Prim.Native.Nat.{ℕ, _-_, _≤_, _<_}
+use native.Mathlib.Nat.{sub-zero}
 use native.Mathlib.Omega.{arith}
 use lib.ListN.{length, take, drop, getD}
 use lib.Seq.{sets, length-sets}
@@ -12,7 +13,7 @@ use Rattle.rules.specs.Answer.{accepted, _>>=_, _>>_, check, orRefuse}
 use Rattle.rules.specs.Reader.{all}
 use Rattle.rules.specs.Bytes.{ascii, word}
 use Rattle.rules.specs.Sheet.{Value, Records, encode, goodRecords, sheetOf, resolve, resolveString, textOf}
-use Rattle.rules.specs.Calls.{zeros, padded, kindAnswer, resolveResult, resolveOf, Output, outputAnswer, resolveStringResult, resolveStringOf}
+use Rattle.rules.specs.Calls.{zeros, padded, kindAnswer, resolveResult, resolveOf, outputAnswer, resolveStringResult, resolveStringOf}
 use Rattle.rules.specs.Laws.Bool.{isSome, false-some}
 use Rattle.sheet.specs.declared.lookup.Found.{Found}
 use Rattle.sheet.specs.declared.lookup.Found.the-variants.{Missing, None, Text, Dictionary}
@@ -20,7 +21,8 @@ use Rattle.sheet.specs.Use.{known}
 use Rattle.sheet.specs.Order.{underscoredIf}
 use Rattle.sheet.specs.Find.{Gives, foundKind, foundText, gives-kind, gives-string}
 use Rattle.buffers.specs.Laws.{stored-first}
-use Rattle.builder.specs.Text.{TextAt, Gave, Refuses}
+use Rattle.lookups.specs.declared.Given.{Given}
+use Rattle.lookups.specs.Text.{TextAt, Gave, GivesText}
 
 -- KIND.
 pub resolve-three : (s p : List ℕ) → isSome (sheetOf s) ≡ false → resolveOf s p ≡ record { number = 3; kind = 0 }
@@ -65,30 +67,32 @@ pub string-six : (s p : List ℕ) (n : ℕ) → ((i : ℕ) → getD s i 0 < 256)
 unfolding resolveStringOf resolveStringResult outputAnswer orRefuse check _>>=_ _>>_
 string-six s p n b h a = rw (known s b h .of, a)
 
-pub refused-text : (v : Output) (k n : ℕ) (before after : List ℕ) (number len : ℕ) → v ≡ record { number = k; len = 0; out = zeros n } → n ≡ length before → Refuses before after k number len → v ≡ record { number = number; len = len; out = after }
-refused-text v k n before after number len e l r = e ∙ λ i. record { number = sym (r .says) i; len = sym (r .none) i; out = (ap zeros l ∙ sym (r .cleared)) i }
+empty : (m : ℕ) (c : List ℕ) → zeros m ≡ padded m (take 0 c)
+unfolding padded
+empty m c = ap zeros (simp sub-zero refl)
+
+pub string-refused : (s p b : List ℕ) (k : ℕ) → resolveStringOf s p (length b) ≡ record { number = k; len = 0; out = zeros (length b) } → GivesText s p b b (record { number = k; len = 0 })
+string-refused s p b k e = record { size = refl; fits = omega arith; is = e ∙ λ i. record { number = k; len = 0; out = empty (length b) b i } }
 
 module _ (s p : List ℕ) (bytes : (i : ℕ) → getD s i 0 < 256) (h : isSome (sheetOf s) ≡ true) (f : Found)
     (told : (r : Records) → s ≡ encode r → goodRecords r word 6 ≡ true → Gives s (resolve r (underscoredIf false p)) f) where
   pub string-within : (a b : ℕ) → TextAt f a b → Within s f a b
   string-within a b t = within s _ f a b (gives s p bytes h f told) t
 
-  pub string-gave : (t : List ℕ) (n : ℕ) (out : List ℕ) (number len : ℕ) → all ascii p ≡ true → t ≡ foundText s f → Gave t n out number len → resolveStringOf s p n ≡ record { number = number; len = len; out = out }
+  pub string-gave : {t b c : List ℕ} {r : Given} → all ascii p ≡ true → t ≡ foundText s f → Gave t b c r → GivesText s p b c r
   unfolding resolveStringOf resolveStringResult resolveString orRefuse check _>>=_ _>>_
-  string-gave t n out number len a e g =
+  string-gave {t} a e g =
       let x = known s bytes h in
       let q : textOf (resolve (x .r) p) ≡ t = sym (e ∙ gives-string s (resolve (x .r) p) f (gives s p bytes h f told)) in
-      rw (x .of, a, q) (g .is)
+      record { size = g .size; fits = g .fits; is = rw (x .of, a, q) (g .is) }
 
--- A text in a buffer, or 11.
-pub gave-eleven : (t : List ℕ) (n : ℕ) (before after : List ℕ) (number len : ℕ) → n < length t → n ≡ length before → Refuses before after 11 number len → Gave t n after number len
+-- A text at the start of a buffer, or 11.
+pub gave-eleven : (t b : List ℕ) → length b < length t → Gave t b b (record { number = 11; len = 0 })
 unfolding outputAnswer check _>>_
-gave-eleven t n before after number len h l r = record { is = rw (lt-leb (length t) n h) (refused-text _ 11 n before after number len refl l r) }
+gave-eleven t b h = record { size = refl; fits = omega arith; is = rw (lt-leb (length t) (length b) h) (λ i. record { number = 11; len = 0; out = empty (length b) b i }) }
 
-pub gave-text : (t : List ℕ) (n : ℕ) (b c d : List ℕ) (m : ℕ) → length t ≤ n → n ≡ length b → m ≡ length t → c ≡ sets b 0 t → d ≡ padded (length c) (take m c) → Gave t n d 0 m
+pub gave-text : (t b c : List ℕ) → length t ≤ length b → c ≡ sets b 0 t → Gave t b c (record { number = 0; len = length t })
 unfolding outputAnswer check _>>_
-gave-text t n b c d m h l k s p =
-    let e : length c ≡ n = ap length s ∙ length-sets b 0 t ∙ sym l in
-    let f : take m c ≡ t = ap (λ z. take z c) k ∙ ap (take (length t)) s ∙ stored-first b t (omega arith) in
-    let g : padded n t ≡ d = sym (p ∙ ap (λ z. padded z (take m c)) e ∙ ap (padded n) f) in
-    record { is = rw (le-leb (length t) n h) (λ i. record { number = 0; len = sym k i; out = g i }) }
+gave-text t b c h s =
+    let f : t ≡ take (length t) c = sym (ap (take (length t)) s ∙ stored-first b t (omega arith)) in
+    record { size = ap length s ∙ length-sets b 0 t; fits = h; is = rw (le-leb (length t) (length b) h) (λ i. record { number = 0; len = length t; out = padded (length b) (f i) }) }

@@ -1,9 +1,9 @@
 use borrow.Author.Needs.{needs}
-use Rattle.builder.proofs.resolve.Statement.{statement}
-use Rattle.builder.proofs.resolve.Tie as tie
-use Rattle.builder.proofs.resolve.Reads as reads
-use Rattle.builder.proofs.resolve.Lts as lts
-use Rattle.builder.proofs.kind.Reads as kind-reads
+use Rattle.lookups.proofs.resolve.Statement.{statement}
+use Rattle.lookups.proofs.resolve.Tie as tie
+use Rattle.lookups.proofs.resolve.Reads as reads
+use Rattle.lookups.proofs.resolve.Lts as lts
+use Rattle.lookups.proofs.kind.Reads as kind-reads
 use Rattle.scan.proofs.is_ascii.Reads as is-ascii-reads
 use Rattle.sheet_layout.proofs.check.Reads as check-reads
 use Rattle.sheet.proofs.lookup.lookup.Reads as lookup-reads
@@ -11,7 +11,7 @@ use mathlib.Core.Path.{sym, _∙_}
 use native.Mathlib.Omega.{arith}
 use borrow.Author.Tests.{not-true, not-false}
 use Rattle.sheet.specs.Use.{is-sheet}
-use Rattle.builder.specs.Laws.{resolve-three, resolve-six, resolve-kind}
+use Rattle.lookups.specs.Laws.{resolve-three, resolve-six, resolve-kind}
 
 check-requires : tie.Need-check-requires
 check-requires c κs = search needs

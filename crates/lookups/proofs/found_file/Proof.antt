@@ -1,10 +1,10 @@
 use borrow.Author.Needs.{needs}
-use Rattle.builder.proofs.found_file.Statement.{statement}
-use Rattle.builder.proofs.found_file.Tie as tie
-use Rattle.builder.proofs.found_file.Reads as reads
-use Rattle.builder.proofs.found_file.Lts as lts
+use Rattle.lookups.proofs.found_file.Statement.{statement}
+use Rattle.lookups.proofs.found_file.Tie as tie
+use Rattle.lookups.proofs.found_file.Reads as reads
+use Rattle.lookups.proofs.found_file.Lts as lts
 use mathlib.Core.Path.{refl}
-use Rattle.builder.specs.Files.{fileAnswer}
+use Rattle.lookups.specs.Files.{fileAnswer}
 
 enum-told : tie.Need-enum-told
 enum-told c = search needs

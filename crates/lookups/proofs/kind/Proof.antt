@@ -1,8 +1,8 @@
 use borrow.Author.Needs.{needs}
-use Rattle.builder.proofs.kind.Statement.{statement}
-use Rattle.builder.proofs.kind.Tie as tie
-use Rattle.builder.proofs.kind.Reads as reads
-use Rattle.builder.proofs.kind.Lts as lts
+use Rattle.lookups.proofs.kind.Statement.{statement}
+use Rattle.lookups.proofs.kind.Tie as tie
+use Rattle.lookups.proofs.kind.Reads as reads
+use Rattle.lookups.proofs.kind.Lts as lts
 use mathlib.Core.Path.{refl}
 use Rattle.sheet.specs.Find.{foundKind}
 

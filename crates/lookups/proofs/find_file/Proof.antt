@@ -1,15 +1,15 @@
 use borrow.Author.Needs.{needs}
-use Rattle.builder.proofs.find_file.Statement.{statement}
-use Rattle.builder.proofs.find_file.Tie as tie
-use Rattle.builder.proofs.find_file.Reads as reads
-use Rattle.builder.proofs.find_file.Lts as lts
-use Rattle.builder.proofs.found_file.Reads as found-file-reads
+use Rattle.lookups.proofs.find_file.Statement.{statement}
+use Rattle.lookups.proofs.find_file.Tie as tie
+use Rattle.lookups.proofs.find_file.Reads as reads
+use Rattle.lookups.proofs.find_file.Lts as lts
+use Rattle.lookups.proofs.found_file.Reads as found-file-reads
 use Rattle.bundle_layout.proofs.check.Reads as check-reads
 use Rattle.bundle.proofs.find.Reads as find-reads
 use Rattle.paths.proofs.is_path.Reads as is-path-reads
 use mathlib.Core.Path.{sym, _∙_}
 use borrow.Author.Tests.{not-true, not-false}
-use Rattle.builder.specs.Files.{find-two, find-four, find-found}
+use Rattle.lookups.specs.Files.{find-two, find-four, find-found}
 
 check-requires : tie.Need-check-requires
 check-requires c κs = search needs

@@ -1,10 +1,10 @@
 use borrow.Author.Needs.{needs}
-use Rattle.builder.proofs.text_place.Statement.{statement}
-use Rattle.builder.proofs.text_place.Tie as tie
-use Rattle.builder.proofs.text_place.Reads as reads
-use Rattle.builder.proofs.text_place.Lts as lts
+use Rattle.lookups.proofs.text_place.Statement.{statement}
+use Rattle.lookups.proofs.text_place.Tie as tie
+use Rattle.lookups.proofs.text_place.Reads as reads
+use Rattle.lookups.proofs.text_place.Lts as lts
 use mathlib.Core.Path.{refl}
-use Rattle.builder.specs.Text.{TextAt}
+use Rattle.lookups.specs.Text.{TextAt}
 
 enum-known-found : tie.Need-enum-known-found
 enum-known-found c = search needs
