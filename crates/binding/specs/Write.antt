@@ -1,30 +1,28 @@
 -- Writing a record into a sheet's buffer.
 use mathlib.Core.Path.{_≡_, refl, sym, ap, _∙_}
-use mathlib.Core.Bool.{Bool, true, false, cond, _||_}
-use mathlib.Core.List.{List, [], _∷_, _++_, append-assoc, append-nil}
+use mathlib.Core.Bool.{Bool, true, false, _||_}
+use mathlib.Core.List.{List, [], _∷_, _++_, append-assoc}
 use mathlib.Core.Option.{some}
-use Prim.Native.Nat.{ℕ, zero, suc, _+_, _-_, _/_, _%_, _≤_, _<_}
-use native.Mathlib.Numerals.{add-one}
+use Prim.Native.Nat.{ℕ, _+_, _-_, _≤_, _<_}
 use native.Mathlib.Omega.{arith}
-use lib.Bits.{bitAnd, bitOr}
-use lib.Dec.{eqb, ltb}
-use lib.ListN.{set as put, length, take, drop, getD, length-append, length-drop, drop-of-length-le}
-use lib.Seq.{drop-cons, sets, take-take, length-sets, length-take-le}
-use borrow.Author.Tests.{eq-eqb, ne-eqb, ltb-true, ltb-false}
+use lib.Dec.{ltb}
+use lib.ListN.{length, take, drop, length-append, length-drop}
+use lib.Seq.{sets, take-take, length-sets, length-take-le}
+use borrow.Author.Tests.{ltb-true, ltb-false}
 use Rattle.scan.specs.Sets.{part}
 use Rattle.scan.specs.Laws.{drop-take}
-use Rattle.buffers.specs.Laws.{sets-append, sets-before}
+use Rattle.buffers.specs.Laws.{sets-before}
 use Rattle.rules.specs.Bytes.{less}
 use Rattle.rules.specs.Laws.Bool.{or-elim, or-false-l, or-false-r}
 use Rattle.rules.specs.Laws.Sheet.{count-le}
-use Rattle.rules.specs.Sheet.{Value, text, nothing, dictionary, Records, end, rec, encode, count, word16Bytes, fieldBytes, fieldMask, valueBytes, valueMask, set}
+use Rattle.rules.specs.Sheet.{Value, text, nothing, dictionary, Records, end, rec, encode, count, fieldBytes, fieldMask, valueBytes, valueMask, set}
 use Rattle.sheet.specs.Parts.{part-slice, length-slice}
-use Rattle.binding.specs.Moves.{slice-take, slice-above, take-stored}
-use Rattle.sheet.specs.Order.{underscoreIf, underscoredIf, underscoredIf-length, underscoredIf-getD}
+use Rattle.record_bytes.specs.Moves.{slice-take, slice-above, take-stored}
+use Rattle.sheet.specs.Order.{underscoredIf, underscoredIf-length}
 use Rattle.sheet.specs.Find.{Gives}
 use Rattle.sheet.specs.Find.{HasRecords}
-use Rattle.binding.specs.Place.{Between, between-start, Placed, one, one-rec}
-use Rattle.binding.specs.Mark.{Marked, HasMark, marked-start}
+use Rattle.places.specs.Place.{Between, between-start, Placed, one, one-rec}
+use Rattle.places.specs.Mark.{Marked, HasMark, marked-start}
 use Rattle.binding.specs.declared.Bound.{Bound}
 use Rattle.binding.specs.declared.Bound.the-variants.{Over, Length}
 use Rattle.binding.specs.declared.Put.{Put}
@@ -34,29 +32,7 @@ use Rattle.sheet.specs.declared.lookup.Found.{Found}
 use Rattle.sheet.specs.declared.lookup.Found.the-variants.{Missing, None, Text, Dictionary}
 use Rattle.binding.specs.declared.Plan.{Plan}
 use Rattle.binding.specs.declared.Plan.the-variants.{Over as TooLong, Fits}
-
--- Bytes of a field of a length, with its length.
-unfoldable pub wide : ℕ → ℕ
-wide n = cond (eqb n 0) 0 (2 + n)
-
--- A text and a dictionary begin with a number: its length, its count.
-unfoldable pub numbered : ℕ → Bool
-numbered bit = eqb bit 2 || eqb bit 4
-
-unfoldable pub number : ℕ → ℕ → List ℕ
-number bit count = cond (numbered bit) (word16Bytes count) []
-
--- A record of the name up to its value's own bytes, and how many that are.
-unfoldable pub opening : List ℕ → ℕ → ℕ → List ℕ
-opening n bit count = (fieldMask 1 n + bit) ∷ (fieldBytes n ++ number bit count)
-
-unfoldable pub openLen : ℕ → ℕ → ℕ
-openLen n bit = 1 + wide n + cond (numbered bit) 2 0
-
--- A value's bit.
-pub record IsBit (bit : ℕ) : Type 0 where
-  pub v : Value
-  pub is : valueMask v ≡ bit
+use Rattle.record_bytes.specs.Opening.{numbered, number, opening, openLen, Opens, opening-length, open-le, open-ge}
 
 -- The value v has this bit, this number and these bytes of its own.
 pub record IsSource (v : Value) (bit count : ℕ) (own : List ℕ) : Type 0 where
@@ -92,17 +68,6 @@ pub record Sources (s : List ℕ) (v : Value) (o : Source) : Type 0 where
   pub inside : o .to ≤ length s
   pub is : IsSource v (o .bit) (o .count) (part s (o .from) (o .to))
 
--- There is room for an opening.
-pub record Opens (b : List ℕ) (at n bit count : ℕ) : Type 0 where
-  pub sort : IsBit bit
-  pub short : n ≤ 65535
-  pub small : count ≤ 65535
-  pub room : at + openLen n bit ≤ length b
-
--- The map byte of a name of n bytes.
-unfoldable pub mapNo : ℕ → ℕ → ℕ
-mapNo n bit = cond (eqb n 0) 0 1 + bit
-
 -- The first n bytes of a buffer are a sheet's records, and it may grow up to `limit`.
 pub record Bindable (b : List ℕ) (n limit : ℕ) : Type 0 where
   pub inside : n ≤ length b
@@ -132,77 +97,6 @@ Binds b n limit name bit count own c o = (v : Value) → IsSource v bit count ow
 -- LAWS.
 pub binds-start : {b : List ℕ} {n limit : ℕ} {name : List ℕ} {v : Value} {c : List ℕ} {o : Put} → BindsAt b n 0 limit name v c o → BindsTo b n limit name v c (o .bound)
 binds-start w = record { long = w .long; leaves = λ r e. w .leaves r (marked-start e) }
-
-pub wide-zero : (n : ℕ) → n ≡ 0 → wide n ≡ 0
-unfolding wide
-wide-zero n h = rw (eq-eqb n 0 h) refl
-
-pub wide-some : (n : ℕ) → (n ≡ 0 → ⊥) → wide n ≡ 2 + n
-unfolding wide
-wide-some n h = rw (ne-eqb n 0 h) refl
-
-pub wide-le : (n : ℕ) → n ≤ wide n
-unfolding wide
-wide-le zero = omega arith
-wide-le (suc n) = rw (ne-eqb (suc n) 0 (λ e. omega arith)) (omega arith)
-
-pub wide-ge : (n : ℕ) → wide n ≤ 2 + n
-unfolding wide
-wide-ge zero = omega arith
-wide-ge (suc n) = rw (ne-eqb (suc n) 0 (λ e. omega arith)) (omega arith)
-
-field-length : (t : List ℕ) → length (fieldBytes t) ≡ wide (length t)
-unfolding fieldBytes word16Bytes
-field-length [] = sym (wide-zero 0 refl)
-field-length (x ∷ xs) = omega (arith, wide-some (suc (length xs)) (λ e. omega arith))
-
-number-length : (bit count : ℕ) → length (number bit count) ≡ cond (numbered bit) 2 0
-unfolding number word16Bytes
-number-length bit count = go (numbered bit)
-  where
-    go : (c : Bool) → length (cond c (count % 256 ∷ count / 256 ∷ []) []) ≡ cond c 2 0
-    go true = refl
-    go false = refl
-
-pub opening-length : (n : List ℕ) (bit count : ℕ) → length (opening n bit count) ≡ openLen (length n) bit
-unfolding opening openLen
-opening-length n bit count = omega (arith, length-append (fieldBytes n) (number bit count), field-length n, number-length bit count)
-
-pub open-le : (n bit : ℕ) → openLen n bit ≤ n + 5
-unfolding openLen
-open-le n bit = go (numbered bit) (wide-ge n)
-  where
-    go : (c : Bool) → wide n ≤ 2 + n → 1 + wide n + cond c 2 0 ≤ n + 5
-    go true h = omega arith
-    go false h = omega arith
-
-open-ge : (n bit : ℕ) → n ≤ openLen n bit
-unfolding openLen
-open-ge n bit = omega (arith, wide-le n)
-
--- What `opening_len` computes.
-numbered-is : (v : Value) → (bitAnd (valueMask v) 6 ≡ 0 → numbered (valueMask v) ≡ false) × ((bitAnd (valueMask v) 6 ≡ 0 → ⊥) → numbered (valueMask v) ≡ true)
-unfolding valueMask fieldMask numbered
-numbered-is (text []) = (λ e. refl, λ e. absurd (e refl))
-numbered-is (text (x ∷ xs)) = (λ e. absurd (omega arith), λ e. refl)
-numbered-is nothing = (λ e. refl, λ e. absurd (e refl))
-numbered-is (dictionary r) = (λ e. absurd (omega arith), λ e. refl)
-
-module _ {bit : ℕ} (b : IsBit bit) where
-  pub unnumbered : bitAnd bit 6 ≡ 0 → numbered bit ≡ false
-  unnumbered = rw (b .is) at (numbered-is (b .v) .0)
-
-  pub is-numbered : (bitAnd bit 6 ≡ 0 → ⊥) → numbered bit ≡ true
-  is-numbered = rw (b .is) at (numbered-is (b .v) .1)
-
-  module _ (name : ℕ) {n : ℕ} (h : n ≡ wide name) where
-    pub open-plain : bitAnd bit 6 ≡ 0 → 1 + n ≡ openLen name bit
-    unfolding openLen
-    open-plain e = rw (unnumbered e) (omega arith)
-
-    pub open-numbered : (bitAnd bit 6 ≡ 0 → ⊥) → 1 + n + 2 ≡ openLen name bit
-    unfolding openLen
-    open-numbered e = rw (is-numbered e) (omega arith)
 
 -- One record is its opening and the value's own bytes.
 one-opening : (n : List ℕ) (v : Value) (bit count : ℕ) (own : List ℕ) → IsSource v bit count own → one n v ≡ opening n bit count ++ own
@@ -253,74 +147,8 @@ module _ (s : List ℕ) (last l : ℕ) (b : Bool) (name : List ℕ) (bit len : �
     small = ltb-false l len (or-false-r (ltb l (length name)) (ltb l len) z);
   }
 
--- WRITING.
--- One byte more of a name.
-pub name-step : (b : List ℕ) (at i : ℕ) (f : Bool) (t : List ℕ) {x : ℕ} → i < length t → x ≡ underscoreIf f (getD t i 0) → sets (put b (at + i) x) (at + (i + 1)) (drop (i + 1) (underscoredIf f t)) ≡ sets b (at + i) (drop i (underscoredIf f t))
-name-step b at i f t h e =
-    let u : at + (i + 1) ≡ suc (at + i) = omega arith in
-    let v : drop i (underscoredIf f t) ≡ underscoreIf f (getD t i 0) ∷ drop (suc i) (underscoredIf f t) = drop-cons (underscoredIf f t) i 0 (omega (arith, underscoredIf-length f t)) ∙ ap (λ z. z ∷ drop (suc i) (underscoredIf f t)) (underscoredIf-getD f t i h) in
-    rw (u, add-one, v, e) refl
-
-pub name-end : (b : List ℕ) (at i : ℕ) (f : Bool) (t : List ℕ) → length t ≤ i → sets b at (drop i (underscoredIf f t)) ≡ b
-name-end b at i f t h = rw (drop-of-length-le (underscoredIf f t) {i = i} (omega (arith, underscoredIf-length f t))) refl
-
-field-empty : (t : List ℕ) → length t ≡ 0 → fieldBytes t ≡ []
-unfolding fieldBytes
-field-empty [] h = refl
-field-empty (x ∷ xs) h = absurd (omega arith)
-
-field-full : (t : List ℕ) → (length t ≡ 0 → ⊥) → fieldBytes t ≡ word16Bytes (length t) ++ t
-unfolding fieldBytes
-field-full [] h = absurd (h refl)
-field-full (x ∷ xs) h = refl
-
-pub field-none : (b : List ℕ) (at : ℕ) (f : Bool) (t : List ℕ) → length t ≡ 0 → b ≡ sets b at (fieldBytes (underscoredIf f t))
-field-none b at f t h = rw (field-empty (underscoredIf f t) (underscoredIf-length f t ∙ h)) refl
-
-pub field-some : (b : List ℕ) (at : ℕ) (f : Bool) (t : List ℕ) {c d : List ℕ} → (length t ≡ 0 → ⊥) → c ≡ sets b at (word16Bytes (length t)) → d ≡ sets c (at + 2) (underscoredIf f t) → d ≡ sets b at (fieldBytes (underscoredIf f t))
-unfolding word16Bytes
-field-some b at f t {c} {d} h p q =
-    let e : fieldBytes (underscoredIf f t) ≡ word16Bytes (length t) ++ underscoredIf f t = field-full (underscoredIf f t) (λ z. h (sym (underscoredIf-length f t) ∙ z)) ∙ ap (λ z. word16Bytes z ++ underscoredIf f t) (underscoredIf-length f t) in
-    q ∙ ap (λ z. sets z (at + 2) (underscoredIf f t)) p ∙ sets-append b at (word16Bytes (length t)) (underscoredIf f t) ∙ ap (sets b at) (sym e)
-
-pub map-plain : (n bit : ℕ) → n ≡ 0 → bit ≡ mapNo n bit
-unfolding mapNo
-map-plain n bit h = rw (eq-eqb n 0 h) (omega arith)
-
-named-bit : (v : Value) → bitOr (valueMask v) 1 ≡ 1 + valueMask v
-unfolding valueMask fieldMask
-named-bit (text []) = refl
-named-bit (text (x ∷ xs)) = refl
-named-bit nothing = refl
-named-bit (dictionary r) = refl
-
-pub map-named : (n : ℕ) {bit : ℕ} → IsBit bit → (n ≡ 0 → ⊥) → bitOr bit 1 ≡ mapNo n bit
-unfolding mapNo
-map-named n {bit} b h = rw (ne-eqb n 0 h) (rw (b .is) at (named-bit (b .v)))
-
 pub short-of : (l a b : ℕ) → (ltb l a || ltb l b) ≡ false → (a ≤ l) × (b ≤ l)
 short-of l a b h = (ltb-false l a (or-false-l (ltb l a) (ltb l b) h), ltb-false l b (or-false-r (ltb l a) (ltb l b) h))
-
--- The map byte, the name and the number, one behind the other.
-map-no : (n : List ℕ) (bit : ℕ) → mapNo (length n) bit ≡ fieldMask 1 n + bit
-unfolding mapNo fieldMask
-map-no [] bit = refl
-map-no (x ∷ xs) bit = rw (ne-eqb (suc (length xs)) 0 (λ e. omega arith)) refl
-
-module _ (b : List ℕ) (at : ℕ) (f : Bool) (t : List ℕ) {bit : ℕ} (g : IsBit bit) (count : ℕ) {m : ℕ} {c : List ℕ} (e : m ≡ mapNo (length t) bit) (p : c ≡ sets (put b at m) (at + 1) (fieldBytes (underscoredIf f t))) where
-  begun : c ≡ sets b at ((fieldMask 1 (underscoredIf f t) + bit) ∷ fieldBytes (underscoredIf f t))
-  begun = p ∙ ap (λ z. sets (put b at z) (at + 1) (fieldBytes (underscoredIf f t))) (e ∙ ap (λ z. mapNo z bit) (sym (underscoredIf-length f t)) ∙ map-no (underscoredIf f t) bit) ∙ rw add-one refl
-
-  pub opening-plain : bitAnd bit 6 ≡ 0 → c ≡ sets b at (opening (underscoredIf f t) bit count)
-  unfolding opening number
-  opening-plain h = begun ∙ rw (unnumbered g h, append-nil (fieldBytes (underscoredIf f t))) refl
-
-  pub opening-numbered : (bitAnd bit 6 ≡ 0 → ⊥) → {k : ℕ} {d : List ℕ} → k ≡ wide (length t) → d ≡ sets c (at + 1 + k) (word16Bytes count) → d ≡ sets b at (opening (underscoredIf f t) bit count)
-  unfolding opening number
-  opening-numbered h {k} {d} w q =
-      let x = (fieldMask 1 (underscoredIf f t) + bit) ∷ fieldBytes (underscoredIf f t) in
-      let l : at + 1 + k ≡ at + length x = omega (arith, field-length (underscoredIf f t), ap wide (underscoredIf-length f t)) in
-      q ∙ ap (λ z. sets c z (word16Bytes count)) l ∙ ap (λ z. sets z (at + length x) (word16Bytes count)) begun ∙ sets-append b at x (word16Bytes count) ∙ rw (is-numbered g h) refl
 
 -- What a lookup found.
 pub text-empty : (t : List ℕ) → length t ≡ 0 → IsSource (text t) 0 0 t
@@ -376,10 +204,6 @@ module _ (s : List ℕ) (v : Value) {f : Found} (w : Gives s (some v) f) where
       let g : Gives s (some v) (Dictionary a b n) = rw h at w in
       let p = g .2 in
       record { on = omega (arith, p .ends); inside = p .inside; is = rw (some-eq v (dictionary (g .0)) (g .1), part-slice p) (dictionary-source (g .0) (g .3)) }
-
-pub open-wide : (n bit : ℕ) → 1 + wide n ≤ openLen n bit
-unfolding openLen
-open-wide n bit = omega arith
 
 -- The numbers of a place that fits.
 pub record Bounds (n l long bit len : ℕ) (p : Room) : Type 0 where

@@ -1,27 +1,24 @@
 // Binding a name inside a lent buffer whose first bytes are the sheet.
+use places::find_place;
+use record_bytes::arrange;
+use record_bytes::opening_len;
+use record_bytes::put_opening;
+use record_bytes::shift;
 use sheet::head::DICTIONARY;
-use sheet::head::NAME;
 use sheet::head::NONE;
 use sheet::head::TEXT;
 use sheet::lookup::Found;
-use sheet::lookup::item;
-use sheet::lookup::order;
-use sheet::lookup::skip;
-use sheet::lookup::underscored_if;
-ghost use mathlib.Core.Path.{_≡_};
-ghost use mathlib.Core.List.{List, _++_};
+ghost use mathlib.Core.List.{List};
 ghost use mathlib.Core.Option.{some};
-ghost use Prim.Native.Nat.{ℕ, _+_, _-_, _≤_, _<_};
+ghost use Prim.Native.Nat.{ℕ, _≤_};
 ghost use lib.ListN.{length, take};
-ghost use lib.Seq.{sets};
 ghost use Rattle.scan.specs.Sets.{part};
-ghost use Rattle.rules.specs.Sheet.{Value, Records, text, word16Bytes, fieldBytes};
+ghost use Rattle.rules.specs.Sheet.{Value, text};
 ghost use Rattle.sheet.specs.Order.{underscoredIf};
 ghost use Rattle.sheet.specs.Find.{Gives};
-ghost use Rattle.binding.specs.Place.{Placing, Placed};
-ghost use Rattle.binding.specs.Mark.{Marked, HasMark};
-ghost use Rattle.binding.specs.Moves.{Arranged};
-ghost use Rattle.binding.specs.Write.{wide, openLen, opening, mapNo, IsBit, IsSource, HasSource, Opens, Sources, Plans, IsThere, Bindable, Binds, BindsTo, BindsAt};
+ghost use Rattle.places.specs.Mark.{HasMark};
+ghost use Rattle.record_bytes.specs.Opening.{IsBit};
+ghost use Rattle.binding.specs.Write.{IsSource, HasSource, Sources, Plans, IsThere, Bindable, Binds, BindsTo, BindsAt};
 
 // What a binding comes to: too long a sheet, or the sheet's new length.
 pub enum Bound {
@@ -33,78 +30,6 @@ pub enum Bound {
 pub struct Put {
     pub bound: Bound,
     pub at: usize,
-}
-
-// Where a name is bound: in place of the bytes from a place to another.
-pub struct Place {
-    pub from: usize,
-    pub to: usize,
-}
-
-// Where the search for a name starts: at `last`, unless the record there comes behind the name.
-fn start(s: &[u8], last: usize, name: &[u8], reference: bool) -> usize
-    requires { ⌜ HasMark (now s) last ⌝ }
-    ensures { λ i. ⌜ ((r : Records) → Marked (now (s .entry)) r last → Placing (now (s .entry)) r (underscoredIf reference (now (name .entry))) i) ⌝ }
-{
-    if last == 0 {
-        return 0;
-    }
-    if s.len() <= last {
-        return 0;
-    }
-    let o = item(s, last);
-    let from = o.from;
-    let to = o.to;
-    if order(&s[from..to], name, reference) == 2 {
-        return 0;
-    }
-    last
-}
-
-// Finds the place of a name among the records.
-fn find_place(s: &[u8], last: usize, name: &[u8], reference: bool) -> Place
-    requires { ⌜ HasMark (now s) last ⌝ }
-    ensures { λ p. ⌜ ((r : Records) → Marked (now (s .entry)) r last → Placed (now (s .entry)) r (underscoredIf reference (now (name .entry))) (p .from) (p .to)) ⌝ }
-{
-    let mut i = start(s, last, name, reference);
-    while i < s.len() {
-        let o = item(s, i);
-        let from = o.from;
-        let to = o.to;
-        let e = skip(s, o.next, o.count);
-        let c = order(&s[from..to], name, reference);
-        if c == 1 {
-            return Place { from: i, to: e };
-        }
-        if c == 2 {
-            return Place { from: i, to: i };
-        }
-        i = e;
-    }
-    Place { from: i, to: i }
-}
-
-// How many bytes a field takes, with its length.
-fn sized(n: usize) -> usize
-    requires { ⌜ n ≤ 65535 ⌝ }
-    ensures { λ r. ⌜ r ≡ wide n ⌝ }
-{
-    if n == 0 {
-        return 0;
-    }
-    n + 2
-}
-
-// How many bytes of a record stand before its text or its records.
-fn opening_len(name: usize, bit: u8) -> usize
-    requires { ⌜ (name ≤ 65535) × IsBit bit ⌝ }
-    ensures { λ r. ⌜ r ≡ openLen name bit ⌝ }
-{
-    let n = sized(name);
-    if bit & (TEXT | DICTIONARY) != 0 {
-        return 1 + n + 2;
-    }
-    1 + n
 }
 
 // Where a record is to go, with its opening's length and the sheet's new length.
@@ -148,102 +73,6 @@ fn find_room(
         head: head,
         total: total,
     })
-}
-
-// Moves the bytes from a place up to another to a third.
-fn shift(buf: &mut [u8], from: usize, end: usize, to: usize)
-    requires { ⌜ (from ≤ end) × (end ≤ length (now buf)) × (to + (end - from) ≤ length (now buf)) ⌝ }
-    ensures { λ _. ⌜ now (buf .exit) ≡ sets (now (buf .entry)) to (part (now (buf .entry)) from end) ⌝ }
-{
-    if to == from {
-        return;
-    }
-    if to <= from {
-        buffers::move_down(buf, to, from, end);
-        return;
-    }
-    buffers::move_up(buf, from, end, to - from);
-}
-
-// Puts the bytes from a to b at a place, and behind them the sheet's tail, from `to` to n. Either may lie in the other's way.
-fn arrange(buf: &mut [u8], at: usize, a: usize, b: usize, to: usize, n: usize)
-    requires { ⌜ Arranged (now buf) at a b to n ⌝ }
-    ensures { λ _. ⌜ now (buf .exit) ≡ sets (now (buf .entry)) at (part (now (buf .entry)) a b ++ part (now (buf .entry)) to n) ⌝ }
-{
-    let e = at + (b - a);
-    if e <= to {
-        shift(buf, a, b, at);
-        shift(buf, to, n, e);
-        return;
-    }
-    shift(buf, to, n, e);
-    let d = e - to;
-    if b <= to {
-        shift(buf, a, b, at);
-        return;
-    }
-    if to <= a {
-        shift(buf, a + d, b + d, at);
-        return;
-    }
-    shift(buf, a, to, at);
-    shift(buf, e, b + d, at + (to - a));
-}
-
-// Writes a 16-bit number, low byte first.
-fn put_number(buf: &mut [u8], at: usize, k: usize)
-    requires { ⌜ (k ≤ 65535) × (at + 2 ≤ length (now buf)) ⌝ }
-    ensures { λ _. ⌜ now (buf .exit) ≡ sets (now (buf .entry)) at (word16Bytes k) ⌝ }
-{
-    buf[at] = (k % 256) as u8;
-    buf[at + 1] = (k / 256) as u8;
-}
-
-// Writes a name; of a reference each `-` as `_`.
-fn put_name(buf: &mut [u8], at: usize, name: &[u8], reference: bool)
-    requires { ⌜ at + length (now name) ≤ length (now buf) ⌝ }
-    ensures { λ _. ⌜ now (buf .exit) ≡ sets (now (buf .entry)) at (underscoredIf reference (now (name .entry))) ⌝ }
-{
-    let mut i: usize = 0;
-    while i < name.len() {
-        buf[at + i] = underscored_if(reference, name[i]);
-        i += 1;
-    }
-}
-
-// Writes a name with its length, or nothing for the empty one.
-fn put_field(buf: &mut [u8], at: usize, name: &[u8], reference: bool)
-    requires { ⌜ (length (now name) ≤ 65535) × (at + wide (length (now name)) ≤ length (now buf)) ⌝ }
-    ensures { λ _. ⌜ now (buf .exit) ≡ sets (now (buf .entry)) at (fieldBytes (underscoredIf reference (now (name .entry)))) ⌝ }
-{
-    if name.len() == 0 {
-        return;
-    }
-    put_number(buf, at, name.len());
-    put_name(buf, at + 2, name, reference);
-}
-
-// The map byte of a record.
-fn map_of(name: usize, bit: u8) -> u8
-    requires { ⌜ IsBit bit ⌝ }
-    ensures { λ r. ⌜ r ≡ mapNo name bit ⌝ }
-{
-    if name == 0 {
-        return bit;
-    }
-    bit | NAME
-}
-
-// Writes a record up to its text or its records.
-fn put_opening(buf: &mut [u8], at: usize, name: &[u8], reference: bool, bit: u8, count: usize)
-    requires { ⌜ Opens (now buf) at (length (now name)) bit count ⌝ }
-    ensures { λ _. ⌜ now (buf .exit) ≡ sets (now (buf .entry)) at (opening (underscoredIf reference (now (name .entry))) bit count) ⌝ }
-{
-    buf[at] = map_of(name.len(), bit);
-    put_field(buf, at + 1, name, reference);
-    if bit & (TEXT | DICTIONARY) != 0 {
-        put_number(buf, at + 1 + sized(name.len()), count);
-    }
 }
 
 // A value: its bit, its own bytes' places, and the number that stands before them.

@@ -26,7 +26,7 @@ use Rattle.scan.specs.Stretches.{spans-but}
 use Rattle.buffers.specs.Laws.{take-sets, stored-first}
 use Rattle.buffers.specs.Emits.{guard, guarded, limited-guarded}
 use Rattle.sheet.specs.Find.{IsSheet}
-use Rattle.binding.specs.Mark.{Mark, mark-start}
+use Rattle.places.specs.Mark.{Mark, mark-start}
 use Rattle.binding.specs.Use.{within-limit, Holds, holds-sheet, Keeps, keeps-holds}
 use Rattle.binding.specs.declared.Bound.{Bound}
 use Rattle.binding.specs.declared.Bound.the-variants.{Over, Length}

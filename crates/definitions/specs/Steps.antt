@@ -19,8 +19,8 @@ use Rattle.rules.specs.Laws.Values.{numberedOr, didHas, reads-definition}
 use Rattle.scan.specs.Sets.{part, Spans}
 use Rattle.buffers.specs.Emits.{guard, guard-no}
 use Rattle.sheet.specs.Order.{underscoredIf}
-use Rattle.binding.specs.Place.{Between}
-use Rattle.binding.specs.Mark.{Mark, Marked, mark-of}
+use Rattle.places.specs.Place.{Between}
+use Rattle.places.specs.Mark.{Mark, Marked, mark-of}
 use Rattle.binding.specs.Write.{IsSource, BindsAt}
 use Rattle.binding.specs.Use.{within-limit, Holds, holds-sheet, Keeps, keeps-holds, leaves-bytes, leaves-over}
 use Rattle.binding.specs.declared.Put.{Put}

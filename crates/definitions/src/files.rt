@@ -23,7 +23,7 @@ ghost use Rattle.scan.specs.Sets.{Starts};
 ghost use Rattle.bundle.specs.Find.{entriesOf};
 ghost use Rattle.values.specs.Values.{Room};
 ghost use Rattle.binding.specs.Use.{Keeps};
-ghost use Rattle.binding.specs.Mark.{Mark};
+ghost use Rattle.places.specs.Mark.{Mark};
 ghost use Rattle.definitions.specs.File.{stepped, boundStep, Steps, Swap, BindsImported, Parses};
 
 // A step that goes on at a place, or is refused.

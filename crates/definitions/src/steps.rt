@@ -7,7 +7,7 @@ ghost use Prim.Native.Nat.{_≤_};
 ghost use lib.ListN.{length, take};
 ghost use Rattle.rules.specs.Reader.{all};
 ghost use Rattle.rules.specs.Bytes.{ascii};
-ghost use Rattle.binding.specs.Mark.{Mark};
+ghost use Rattle.places.specs.Mark.{Mark};
 ghost use Rattle.values.specs.Values.{Room};
 ghost use Rattle.binding.specs.Use.{Keeps};
 ghost use Rattle.definitions.specs.Steps.{DefinesLet};

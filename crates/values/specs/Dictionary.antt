@@ -19,8 +19,8 @@ use Rattle.scan.specs.Laws.{sees-the, mark-yes, mark-no}
 use Rattle.scan.specs.Stretches.{spans-but}
 use Rattle.scan.specs.Laws.{tail-part}
 use Rattle.sheet.specs.Find.{IsSheet}
-use Rattle.binding.specs.Place.{one-some, Between, between-start}
-use Rattle.binding.specs.Mark.{ascending, set-ascending, Marked, HasMark}
+use Rattle.places.specs.Place.{one-some, Between, between-start}
+use Rattle.places.specs.Mark.{ascending, set-ascending, Marked, HasMark}
 use Rattle.binding.specs.Write.{IsSource, HasSource, Bindable, BindsAt, Leaves, set-size}
 use Rattle.binding.specs.declared.Put.{Put}
 use Rattle.binding.specs.declared.Bound.the-variants.{Over, Length}

@@ -4,8 +4,8 @@ use Rattle.binding.proofs.bind_behind.Tie as tie
 use Rattle.binding.proofs.bind_behind.Reads as reads
 use Rattle.binding.proofs.bind_behind.Lts as lts
 use Rattle.binding.proofs.find_room.Reads as find-room-reads
-use Rattle.binding.proofs.put_opening.Reads as put-opening-reads
-use Rattle.binding.proofs.shift.Reads as shift-reads
+use Rattle.record_bytes.proofs.put_opening.Reads as put-opening-reads
+use Rattle.record_bytes.proofs.shift.Reads as shift-reads
 use mathlib.Core.Path.{refl, sym, ap, _∙_}
 use mathlib.Core.Bool.{false}
 use lib.ListN.{length}

@@ -3,15 +3,15 @@ use Rattle.binding.proofs.bind_found.Statement.{statement}
 use Rattle.binding.proofs.bind_found.Tie as tie
 use Rattle.binding.proofs.bind_found.Reads as reads
 use Rattle.binding.proofs.bind_found.Lts as lts
-use Rattle.binding.proofs.arrange.Reads as arrange-reads
+use Rattle.record_bytes.proofs.arrange.Reads as arrange-reads
 use Rattle.binding.proofs.find_room.Reads as find-room-reads
-use Rattle.binding.proofs.put_opening.Reads as put-opening-reads
+use Rattle.record_bytes.proofs.put_opening.Reads as put-opening-reads
 use Rattle.binding.proofs.source_of.Reads as source-of-reads
 use mathlib.Core.Path.{refl, sym, ap}
 use native.Mathlib.Omega.{arith}
 use lib.ListN.{length}
 use lib.Seq.{length-take-le, length-sets}
-use Rattle.binding.specs.Mark.{has-start}
+use Rattle.places.specs.Mark.{has-start}
 use Rattle.binding.specs.Write.{binds-start, bound-over, bound-there, fit-bounds, opens-there, source-length}
 
 source-of-requires : tie.Need-source-of-requires

@@ -4,7 +4,7 @@ use Rattle.binding.proofs.bind_value.Tie as tie
 use Rattle.binding.proofs.bind_value.Reads as reads
 use Rattle.binding.proofs.bind_value.Lts as lts
 use Rattle.binding.proofs.bind_value_at.Reads as bind-value-at-reads
-use Rattle.binding.specs.Mark.{has-start}
+use Rattle.places.specs.Mark.{has-start}
 use Rattle.binding.specs.Write.{Binds, binds-start}
 
 bind-value-at-requires : tie.Need-bind-value-at-requires

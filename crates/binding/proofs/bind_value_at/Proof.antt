@@ -5,8 +5,8 @@ use Rattle.binding.proofs.bind_value_at.Reads as reads
 use Rattle.binding.proofs.bind_value_at.Lts as lts
 use Rattle.buffers.proofs.store.Reads as store-reads
 use Rattle.binding.proofs.find_room.Reads as find-room-reads
-use Rattle.binding.proofs.put_opening.Reads as put-opening-reads
-use Rattle.binding.proofs.shift.Reads as shift-reads
+use Rattle.record_bytes.proofs.put_opening.Reads as put-opening-reads
+use Rattle.record_bytes.proofs.shift.Reads as shift-reads
 use mathlib.Core.Path.{refl, sym, ap, _∙_}
 use native.Mathlib.Omega.{arith}
 use lib.ListN.{length}

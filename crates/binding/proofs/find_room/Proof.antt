@@ -3,12 +3,13 @@ use Rattle.binding.proofs.find_room.Statement.{statement}
 use Rattle.binding.proofs.find_room.Tie as tie
 use Rattle.binding.proofs.find_room.Reads as reads
 use Rattle.binding.proofs.find_room.Lts as lts
-use Rattle.binding.proofs.opening_len.Reads as opening-len-reads
-use Rattle.binding.proofs.find_place.Reads as find-place-reads
+use Rattle.record_bytes.proofs.opening_len.Reads as opening-len-reads
+use Rattle.places.proofs.find_place.Reads as find-place-reads
 use mathlib.Core.Path.{refl}
 use native.Mathlib.Omega.{arith}
 use lib.ListN.{length}
-use Rattle.binding.specs.Write.{open-le, short-of, plans-long, plans-over, plans-fits}
+use Rattle.record_bytes.specs.Opening.{open-le}
+use Rattle.binding.specs.Write.{short-of, plans-long, plans-over, plans-fits}
 
 returns : tie.Need-returns
 returns c = plans-long _ _ _ _ _ _ _ (c .if1 .taken)

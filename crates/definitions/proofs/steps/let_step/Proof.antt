@@ -10,7 +10,7 @@ use mathlib.Core.Path.{sym}
 use native.Mathlib.Omega.{arith}
 use lib.Seq.{length-take-le}
 use borrow.Author.Tests.{not-true, not-false}
-use Rattle.binding.specs.Mark.{has-mark}
+use Rattle.places.specs.Mark.{has-mark}
 use Rattle.binding.specs.Use.{to-bind}
 use Rattle.values.specs.Values.{slot-le}
 use Rattle.definitions.specs.Steps.{let-no, let-size, let-over, let-bound}

@@ -1,9 +1,9 @@
 use borrow.Author.Needs.{needs}
 use Rattle.scan.specs.Sets.{part}
-use Rattle.binding.proofs.shift.Statement.{statement}
-use Rattle.binding.proofs.shift.Tie as tie
-use Rattle.binding.proofs.shift.Reads as reads
-use Rattle.binding.proofs.shift.Lts as lts
+use Rattle.record_bytes.proofs.shift.Statement.{statement}
+use Rattle.record_bytes.proofs.shift.Tie as tie
+use Rattle.record_bytes.proofs.shift.Reads as reads
+use Rattle.record_bytes.proofs.shift.Lts as lts
 use Rattle.buffers.proofs.move_down.Reads as move-down-reads
 use Rattle.buffers.proofs.move_up.Reads as move-up-reads
 use mathlib.Core.Path.{_≡_, sym, ap, _∙_}
@@ -12,7 +12,7 @@ use Prim.Native.Nat.{_+_, _-_}
 use lib.ListN.{take, drop}
 use lib.Seq.{sets}
 use Rattle.scan.specs.Laws.{drop-take}
-use Rattle.binding.specs.Moves.{sets-slice}
+use Rattle.record_bytes.specs.Moves.{sets-slice}
 
 returns : tie.Need-returns
 returns c =

@@ -19,7 +19,7 @@ use Rattle.sheet.specs.Items.{At, join, encode-join}
 use Rattle.sheet.specs.Order.{orderOf, order-less}
 use Rattle.sheet.specs.Find.{IsSheet}
 use Rattle.sheet.specs.Find.{HasRecords}
-use Rattle.binding.specs.Place.{Tail, Between, Placing, between-start, set-below, set-same, set-past}
+use Rattle.places.specs.Place.{Tail, Between, Placing, between-start, set-below, set-same, set-past}
 
 -- Does each name stand before the next one.
 unfoldable pub ascending : Records → Bool

@@ -1,15 +1,15 @@
 use borrow.Author.Needs.{needs}
-use Rattle.binding.proofs.put_field.Statement.{statement}
-use Rattle.binding.proofs.put_field.Tie as tie
-use Rattle.binding.proofs.put_field.Reads as reads
-use Rattle.binding.proofs.put_field.Lts as lts
-use Rattle.binding.proofs.put_name.Reads as put-name-reads
-use Rattle.binding.proofs.put_number.Reads as put-number-reads
+use Rattle.record_bytes.proofs.put_field.Statement.{statement}
+use Rattle.record_bytes.proofs.put_field.Tie as tie
+use Rattle.record_bytes.proofs.put_field.Reads as reads
+use Rattle.record_bytes.proofs.put_field.Lts as lts
+use Rattle.record_bytes.proofs.put_name.Reads as put-name-reads
+use Rattle.record_bytes.proofs.put_number.Reads as put-number-reads
 use mathlib.Core.Path.{ap, _∙_}
 use native.Mathlib.Omega.{arith}
 use lib.ListN.{length}
 use lib.Seq.{length-sets}
-use Rattle.binding.specs.Write.{field-none, field-some, wide-some}
+use Rattle.record_bytes.specs.Opening.{field-none, field-some, wide-some}
 
 returns : tie.Need-returns
 returns c = field-none _ _ _ _ (c .if1 .taken)

@@ -1,13 +1,13 @@
 use borrow.Author.Needs.{needs}
-use Rattle.binding.proofs.start.Statement.{statement}
-use Rattle.binding.proofs.start.Tie as tie
-use Rattle.binding.proofs.start.Reads as reads
-use Rattle.binding.proofs.start.Lts as lts
+use Rattle.places.proofs.start.Statement.{statement}
+use Rattle.places.proofs.start.Tie as tie
+use Rattle.places.proofs.start.Reads as reads
+use Rattle.places.proofs.start.Lts as lts
 use Rattle.sheet.proofs.lookup.item.Reads as item-reads
 use Rattle.sheet.proofs.lookup.order.Reads as order-reads
 use native.Mathlib.Omega.{arith}
-use Rattle.binding.specs.Place.{place-start}
-use Rattle.binding.specs.Mark.{there, there-at, place-there}
+use Rattle.places.specs.Place.{place-start}
+use Rattle.places.specs.Mark.{there, there-at, place-there}
 
 returns : tie.Need-returns
 returns c = λ r m. place-start (m .bytes)

@@ -1,8 +1,8 @@
 use borrow.Author.Needs.{needs}
-use Rattle.binding.proofs.put_number.Statement.{statement}
-use Rattle.binding.proofs.put_number.Tie as tie
-use Rattle.binding.proofs.put_number.Reads as reads
-use Rattle.binding.proofs.put_number.Lts as lts
+use Rattle.record_bytes.proofs.put_number.Statement.{statement}
+use Rattle.record_bytes.proofs.put_number.Tie as tie
+use Rattle.record_bytes.proofs.put_number.Reads as reads
+use Rattle.record_bytes.proofs.put_number.Lts as lts
 use mathlib.Core.Path.{refl}
 use native.Mathlib.Numerals.{add-one}
 use lib.ListN.{length-set}

@@ -1,11 +1,11 @@
 use borrow.Author.Needs.{needs}
-use Rattle.binding.proofs.opening_len.Statement.{statement}
-use Rattle.binding.proofs.opening_len.Tie as tie
-use Rattle.binding.proofs.opening_len.Reads as reads
-use Rattle.binding.proofs.opening_len.Lts as lts
-use Rattle.binding.proofs.sized.Reads as sized-reads
+use Rattle.record_bytes.proofs.opening_len.Statement.{statement}
+use Rattle.record_bytes.proofs.opening_len.Tie as tie
+use Rattle.record_bytes.proofs.opening_len.Reads as reads
+use Rattle.record_bytes.proofs.opening_len.Lts as lts
+use Rattle.record_bytes.proofs.sized.Reads as sized-reads
 use native.Mathlib.Omega.{arith}
-use Rattle.binding.specs.Write.{wide-ge, open-plain, open-numbered}
+use Rattle.record_bytes.specs.Opening.{wide-ge, open-plain, open-numbered}
 
 sized-requires : tie.Need-sized-requires
 sized-requires c κs = search needs

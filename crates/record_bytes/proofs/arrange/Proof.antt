@@ -1,10 +1,10 @@
 use borrow.Author.Needs.{needs}
-use Rattle.binding.proofs.arrange.Statement.{statement}
-use Rattle.binding.proofs.arrange.Tie as tie
-use Rattle.binding.proofs.arrange.Reads as reads
-use Rattle.binding.proofs.arrange.Lts as lts
-use Rattle.binding.proofs.shift.Reads as shift-reads
-use Rattle.binding.specs.Moves.{arrange-down, arrange-below, arrange-above, arrange-across}
+use Rattle.record_bytes.proofs.arrange.Statement.{statement}
+use Rattle.record_bytes.proofs.arrange.Tie as tie
+use Rattle.record_bytes.proofs.arrange.Reads as reads
+use Rattle.record_bytes.proofs.arrange.Lts as lts
+use Rattle.record_bytes.proofs.shift.Reads as shift-reads
+use Rattle.record_bytes.specs.Moves.{arrange-down, arrange-below, arrange-above, arrange-across}
 
 sub-e : tie.Need-sub-e
 sub-e c = search needs

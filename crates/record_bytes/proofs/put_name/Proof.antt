@@ -1,8 +1,8 @@
 use borrow.Author.Needs.{needs}
-use Rattle.binding.proofs.put_name.Statement.{statement}
-use Rattle.binding.proofs.put_name.Tie as tie
-use Rattle.binding.proofs.put_name.Reads as reads
-use Rattle.binding.proofs.put_name.Lts as lts
+use Rattle.record_bytes.proofs.put_name.Statement.{statement}
+use Rattle.record_bytes.proofs.put_name.Tie as tie
+use Rattle.record_bytes.proofs.put_name.Reads as reads
+use Rattle.record_bytes.proofs.put_name.Lts as lts
 use Rattle.sheet.proofs.lookup.underscored_if.Reads as underscored-if-reads
 use mathlib.Core.Path.{_≡_, refl, sym, _∙_}
 use Prim.Native.Nat.{_≤_, _-_, _+_}
@@ -10,7 +10,7 @@ use native.Mathlib.Nat.{add-zero}
 use lib.ListN.{length, drop, length-set}
 use lib.Seq.{sets}
 use Rattle.sheet.specs.Order.{underscoredIf}
-use Rattle.binding.specs.Write.{name-step, name-end}
+use Rattle.record_bytes.specs.Opening.{name-step, name-end}
 
 abbrev Inv-loop : tie.InvT-loop
 Inv-loop buf₀ at name reference i₀ buf i = (i ≤ length name) × (length buf ≡ length buf₀) × (sets buf (at + i) (drop i (underscoredIf reference name)) ≡ sets buf₀ at (underscoredIf reference name))

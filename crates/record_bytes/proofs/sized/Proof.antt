@@ -1,11 +1,11 @@
 use borrow.Author.Needs.{needs}
-use Rattle.binding.proofs.sized.Statement.{statement}
-use Rattle.binding.proofs.sized.Tie as tie
-use Rattle.binding.proofs.sized.Reads as reads
-use Rattle.binding.proofs.sized.Lts as lts
+use Rattle.record_bytes.proofs.sized.Statement.{statement}
+use Rattle.record_bytes.proofs.sized.Tie as tie
+use Rattle.record_bytes.proofs.sized.Reads as reads
+use Rattle.record_bytes.proofs.sized.Lts as lts
 use mathlib.Core.Path.{sym}
 use native.Mathlib.Omega.{arith}
-use Rattle.binding.specs.Write.{wide-zero, wide-some}
+use Rattle.record_bytes.specs.Opening.{wide-zero, wide-some}
 
 returns : tie.Need-returns
 returns c = sym (wide-zero _ (c .if1 .taken))

@@ -1,16 +1,16 @@
-use Rattle.binding.proofs.put_opening.Statement.{statement}
-use Rattle.binding.proofs.put_opening.Tie as tie
-use Rattle.binding.proofs.put_opening.Reads as reads
-use Rattle.binding.proofs.put_opening.Lts as lts
-use Rattle.binding.proofs.map_of.Reads as map-of-reads
-use Rattle.binding.proofs.put_field.Reads as put-field-reads
-use Rattle.binding.proofs.put_number.Reads as put-number-reads
-use Rattle.binding.proofs.sized.Reads as sized-reads
+use Rattle.record_bytes.proofs.put_opening.Statement.{statement}
+use Rattle.record_bytes.proofs.put_opening.Tie as tie
+use Rattle.record_bytes.proofs.put_opening.Reads as reads
+use Rattle.record_bytes.proofs.put_opening.Lts as lts
+use Rattle.record_bytes.proofs.map_of.Reads as map-of-reads
+use Rattle.record_bytes.proofs.put_field.Reads as put-field-reads
+use Rattle.record_bytes.proofs.put_number.Reads as put-number-reads
+use Rattle.record_bytes.proofs.sized.Reads as sized-reads
 use mathlib.Core.Path.{ap, _∙_}
 use native.Mathlib.Omega.{arith}
 use lib.ListN.{length, length-set}
 use lib.Seq.{length-sets}
-use Rattle.binding.specs.Write.{opening-plain, opening-numbered, open-wide, open-numbered}
+use Rattle.record_bytes.specs.Opening.{opening-plain, opening-numbered, open-wide, open-numbered}
 
 map-of-requires : tie.Need-map-of-requires
 map-of-requires c κs = c .before .before .pre .sort

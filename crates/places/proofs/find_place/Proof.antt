@@ -1,9 +1,9 @@
 use borrow.Author.Needs.{needs}
-use Rattle.binding.proofs.find_place.Statement.{statement}
-use Rattle.binding.proofs.find_place.Tie as tie
-use Rattle.binding.proofs.find_place.Reads as reads
-use Rattle.binding.proofs.find_place.Lts as lts
-use Rattle.binding.proofs.start.Reads as start-reads
+use Rattle.places.proofs.find_place.Statement.{statement}
+use Rattle.places.proofs.find_place.Tie as tie
+use Rattle.places.proofs.find_place.Reads as reads
+use Rattle.places.proofs.find_place.Lts as lts
+use Rattle.places.proofs.start.Reads as start-reads
 use Rattle.sheet.proofs.lookup.item.Reads as item-reads
 use Rattle.sheet.proofs.lookup.order.Reads as order-reads
 use Rattle.sheet.proofs.lookup.skip.Reads as skip-reads
@@ -13,8 +13,8 @@ use lib.ListN.{length}
 use Rattle.rules.specs.Sheet.{Records}
 use Rattle.sheet.specs.Order.{underscoredIf}
 use Rattle.sheet.specs.Find.{item-holding, item-has, item-rest}
-use Rattle.binding.specs.Mark.{Marked}
-use Rattle.binding.specs.Place.{Placing, standing, standing-at, place-end, place-below, place-same, place-on}
+use Rattle.places.specs.Mark.{Marked}
+use Rattle.places.specs.Place.{Placing, standing, standing-at, place-end, place-below, place-same, place-on}
 
 abbrev Inv-loop : tie.InvT-loop
 Inv-loop s last name reference i₀ i = (r : Records) → Marked s r last → Placing s r (underscoredIf reference name) i
