@@ -28,11 +28,11 @@ use Rattle.bundle.specs.declared.Found.{Found}
 use Rattle.bundle.specs.declared.Found.the-variants.{Absent, Folder, File as At}
 use Rattle.strings.specs.Read.{Wrote}
 use Rattle.strings.specs.Paths.{PathIn, path-in}
-use Rattle.definition_imports.specs.Words.{names-line}
-use Rattle.definition_imports.specs.declared.imports.Import.{Import}
-use Rattle.definition_imports.specs.declared.imports.Target.{Target}
-use Rattle.definition_imports.specs.declared.imports.Target.the-variants.{Nothing, Refused, File as Found-at}
-use Rattle.definition_imports.specs.declared.imports.Imported.{Imported}
+use Rattle.imported_names.specs.Words.{names-line}
+use Rattle.definition_imports.specs.declared.Import.{Import}
+use Rattle.definition_imports.specs.declared.Target.{Target}
+use Rattle.definition_imports.specs.declared.Target.the-variants.{Nothing, Refused, File as Found-at}
+use Rattle.definition_imports.specs.declared.Imported.{Imported}
 
 -- A path with a literal: what the rules' step asks for, whatever an import comes to.
 pub record Literal (t : List ℕ) (at : ℕ) (r : Import) : Type 0 where

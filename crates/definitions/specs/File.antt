@@ -31,13 +31,13 @@ use Rattle.binding.specs.Use.{within-limit, Holds, holds-sheet, Keeps, keeps-ho
 use Rattle.binding.specs.declared.Bound.{Bound}
 use Rattle.binding.specs.declared.Bound.the-variants.{Over, Length}
 use Rattle.values.specs.Values.{slots, Room, room-two, room-behind, lent, lent-size, lent-first}
-use Rattle.definition_imports.specs.Names.{Ready, IsBound, BindsNames}
+use Rattle.imported_names.specs.Names.{Ready, IsBound, BindsNames}
 use Rattle.definitions.specs.Steps.{Comes, DefinesLet}
 use Rattle.definition_imports.specs.Import.{comesTo, ImportsAt}
 use Rattle.definitions.specs.declared.steps.Stepped.{Stepped}
 use Rattle.definitions.specs.declared.files.Parsed.{Parsed}
-use Rattle.definition_imports.specs.declared.imports.Target.the-variants.{Nothing, Refused, File as Found-at}
-use Rattle.definition_imports.specs.declared.imports.Imported.{Imported}
+use Rattle.definition_imports.specs.declared.Target.the-variants.{Nothing, Refused, File as Found-at}
+use Rattle.definition_imports.specs.declared.Imported.{Imported}
 
 abbrev pub stepped : Bool → ℕ → ℕ → ℕ → ℕ → Stepped
 stepped o k at len last = record { ok = o; number = k; at = at; len = len; last = last }

@@ -2,9 +2,9 @@
 use crate::steps::Stepped;
 use crate::steps::let_step;
 use binding::Bound;
-use definition_imports::imports::Target;
-use definition_imports::imports::find_import;
-use definition_imports::names::bind_names;
+use definition_imports::Target;
+use definition_imports::find_import;
+use imported_names::bind_names;
 ghost use mathlib.Core.Path.{_≡_};
 ghost use mathlib.Core.Bool.{true, false};
 ghost use Prim.Native.Nat.{ℕ, _+_, _≤_, _<_};

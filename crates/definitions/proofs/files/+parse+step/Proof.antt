@@ -12,7 +12,7 @@ use Rattle.definitions.proofs.files.bind_imported.Reads as bind-importe
 use Rattle.definitions.proofs.files.bound_step.Reads as bound-step-reads
 use Rattle.definitions.proofs.files.ended.Reads as ended-reads
 use Rattle.definitions.proofs.files.other_step.Reads as other-step-reads
-use Rattle.definition_imports.proofs.imports.find_import.Reads as find-import-reads
+use Rattle.definition_imports.proofs.find_import.Reads as find-import-reads
 use Rattle.scan.proofs.starts_with.Reads as starts-with-reads
 use Rattle.definitions.proofs.files.+parse+step.{statement}
 use Rattle.definitions.proofs.files.+parse+step.Tie.{close}

@@ -4,7 +4,7 @@ use Rattle.definitions.proofs.files.bind_imported.Tie as tie
 use Rattle.definitions.proofs.files.bind_imported.Reads as reads
 use Rattle.definitions.proofs.files.bind_imported.Lts as lts
 use Rattle.buffers.proofs.store.Reads as store-reads
-use Rattle.definition_imports.proofs.names.bind_names.Reads as bind-names-reads
+use Rattle.imported_names.proofs.bind_names.Reads as bind-names-reads
 use mathlib.Core.Path.{sym, ap, _∙_}
 use native.Mathlib.Omega.{arith}
 use lib.ListN.{length}
