@@ -6,7 +6,7 @@ use Prim.Native.Nat.{ℕ, _+_, _-_, _≤_, _<_}
 use native.Mathlib.Omega.{arith}
 use lib.Dec.{leb}
 use borrow.Author.Tests.{le-leb, lt-leb}
-use lib.ListN.{length, take, drop, replicate, drop-of-length-le}
+use lib.ListN.{length, take, drop, drop-of-length-le}
 use Rattle.rules.specs.Reader.{bytes}
 use Rattle.rules.specs.Run.{Emit, ok, put, andThen, unrefused, Trace, step, run, emitted, allWhole, write}
 use Rattle.rules.specs.Bytes.{join}

@@ -1,23 +1,23 @@
 -- What `manual` writes: the ways through it.
 use mathlib.Core.Path.{_≡_, refl, sym, ap, _∙_}
-use mathlib.Core.List.{List, [], _∷_, _++_}
+use mathlib.Core.List.{List, [], _++_}
 use mathlib.Core.Bool.{Bool}
-use Prim.Native.Nat.{ℕ, zero, suc, _+_, _-_, _/_, _%_, _≤_, _<_}
+use Prim.Native.Nat.{ℕ, zero, suc, _+_, _-_, _≤_, _<_}
 use native.Mathlib.Omega.{arith}
 use lib.ListN.{length, take, drop, take-append-drop}
-use lib.Seq.{sets, length-sets, length-take-le}
-use borrow.Author.Tests.{le-leb, lt-leb, le-ltb, lt-ltb}
+use lib.Seq.{length-take-le}
+use borrow.Author.Tests.{le-leb, lt-leb}
 use Rattle.rules.specs.Answer.{Answer, refused, accepted, _>>=_, _>>_, check, orRefuse}
 use Rattle.rules.specs.Reader.{bytes}
 use Rattle.rules.specs.Bundle.{bundleOf}
 use Rattle.rules.specs.Files.{view, fetch}
 use Rattle.rules.specs.Calls.{zeros, padded, findFileOf, parseDefinitionsOf, passOf}
-use Rattle.rules.specs.Manual.{decimal, answered, sheetFrom, outputFrom, setting, built, shown, manual, manualOf}
+use Rattle.rules.specs.Manual.{answered, sheetFrom, outputFrom, setting, built, shown, manual, manualOf}
 use Rattle.rules.specs.Laws.Answer.{assoc}
 use Rattle.rules.specs.Laws.Calls.{parseDefinitions-holds, pass-holds}
 use Rattle.rules.specs.Laws.Found.{contentFrom, content-refused, content-absent, content-there, found-content, found-inside}
 use Rattle.rules.specs.Laws.Manual.{manual-holds}
-use Rattle.buffers.specs.Laws.{sets-append, stored-first}
+use Rattle.refusals.specs.Text.{Leaves}
 use Rattle.manual_text.specs.declared.Built.{Built}
 
 -- What follows the definitions, from the sheet s on.
@@ -30,12 +30,6 @@ pub record Builds (a : Answer (List ℕ)) (out out₂ : List ℕ) (r : Built) : 
   pub fits : r .len ≤ length out
   pub says : a ≡ answered (r .number) (take (r .len) out₂)
   pub behind : r .number ≡ 0 → drop (r .len) out₂ ≡ zeros (length out₂ - r .len)
-
--- The text t stands at the start of the buffer.
-pub record Shows (t out out₂ : List ℕ) (n : ℕ) : Type 0 where
-  pub size : length out₂ ≡ length out
-  pub fits : n ≤ length out
-  pub is : take n out₂ ≡ t
 
 answered-refused : (k : ℕ) (r : List ℕ) → (k ≡ 0 → ⊥) → answered k r ≡ refused k
 unfolding answered
@@ -116,26 +110,6 @@ module _ (b : List ℕ) where
     pub sheet-fits : n ≤ length s
     sheet-fits = let h = rw e at (parseDefinitions-holds b (bytes "defs.typ") l w) in omega (arith, h .fits, h .size)
 
--- THE TEXT OF A REFUSAL.
-refusal : {n : ℕ} {d x o o₁ o₂ : List ℕ} → 32768 ≡ length o → o₁ ≡ sets o 0 (bytes "refused ") → o₂ ≡ sets o₁ 8 d → length d ≤ 3 → n ≡ 8 + length d → bytes "refused " ++ d ≡ x → Shows x o o₂ n
-refusal {n = n} {d} {o = o} {o₁} {o₂} l e₁ e₂ h z q =
-    let t = bytes "refused " ++ d in
-    let y : o₂ ≡ sets o 0 t = e₂ ∙ ap (λ x. sets x 8 d) e₁ ∙ sets-append o 0 (bytes "refused ") d in
-    let i : n ≡ length t = omega arith in
-    record {
-      size = ap length y ∙ length-sets o 0 t;
-      fits = omega arith;
-      is = ap (λ i. take i o₂) i ∙ ap (take (length t)) y ∙ stored-first o t (omega arith) ∙ q;
-    }
-
-pub refusal-one : (k : ℕ) {o o₁ o₂ : List ℕ} → k < 10 → 32768 ≡ length o → o₁ ≡ sets o 0 (bytes "refused ") → o₂ ≡ sets o₁ 8 ((48 + k) ∷ 10 ∷ []) → Shows (shown (refused k)) o o₂ 10
-unfolding shown decimal
-refusal-one k h l e₁ e₂ = let z : decimal k ≡ (48 + k) ∷ [] = rw (lt-ltb k 10 h, decimal) refl in refusal {d = (48 + k) ∷ 10 ∷ []} l e₁ e₂ (omega arith) refl (ap (λ x. bytes "refused " ++ (x ++ bytes "\n")) (sym z))
-
-pub refusal-two : (k : ℕ) {o o₁ o₂ : List ℕ} → 10 ≤ k → 32768 ≡ length o → o₁ ≡ sets o 0 (bytes "refused ") → o₂ ≡ sets o₁ 8 ((48 + k / 10) ∷ (48 + k % 10) ∷ 10 ∷ []) → Shows (shown (refused k)) o o₂ 11
-unfolding shown decimal
-refusal-two k h l e₁ e₂ = let z : decimal k ≡ (48 + k / 10) ∷ (48 + k % 10) ∷ [] = rw (le-ltb k 10 h, decimal) refl in refusal {d = (48 + k / 10) ∷ (48 + k % 10) ∷ 10 ∷ []} l e₁ e₂ (omega arith) refl (ap (λ x. bytes "refused " ++ (x ++ bytes "\n")) (sym z))
-
 -- WHAT IS WRITTEN: n bytes of the buffer o, and zero behind them.
 answers : (b : List ℕ) {n : ℕ} (o : List ℕ) {o₂ : List ℕ} → 32768 ≡ length o → n ≤ length o → take n o ≡ manual b → padded (length o) (take n o) ≡ o₂ → manualOf b ≡ record { len = n; out = o₂ }
 unfolding manualOf
@@ -157,11 +131,13 @@ module _ (b : List ℕ) {o o₂ : List ℕ} {r : Built} (l : 32768 ≡ length o)
       answers b o₂ (l ∙ sym (B .size)) f (sym (ap shown (B .says ∙ answered-accepted (r .number) _ h)))
       (padded-take o₂ (r .len) f (B .behind h))
 
-  -- The text of the refusal, n bytes, and the buffer cleared from there on.
-  pub manual-refused : (r .number ≡ 0 → ⊥) → {o₃ o₄ : List ℕ} {n : ℕ} → Shows (shown (refused (r .number))) o₂ o₃ n → o₄ ≡ padded (length o₃) (take n o₃) → manualOf b ≡ record { len = n; out = o₄ }
-  unfolding manual
-  manual-refused h {o₃} s e =
-      answers b o₃ (l ∙ sym (s .size ∙ B .size)) (omega (arith, s .fits, s .size)) (s .is ∙ sym (ap shown (B .says ∙ answered-refused (r .number) _ h))) (sym e)
+  pub manual-refused : (r .number ≡ 0 → ⊥) → {o₃ : List ℕ} {n : ℕ} → Leaves (shown (refused (r .number))) o₂ o₃ n → manualOf b ≡ record { len = n; out = o₃ }
+  unfolding manual manualOf
+  manual-refused h s =
+      let e : manual b ≡ shown (refused (r .number)) = ap shown (B .says ∙ answered-refused (r .number) _ h) in
+      let i = ap length e ∙ s .long in
+      let j = (λ k. padded ((l ∙ sym (B .size)) k) (e k)) ∙ s .is in
+      λ k. record { len = i k; out = j k }
 
 -- What is written lies in the buffer.
 pub manual-size : (b : List ℕ) {n : ℕ} {o : List ℕ} → manualOf b ≡ record { len = n; out = o } → length o ≡ 32768

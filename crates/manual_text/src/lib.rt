@@ -1,10 +1,9 @@
 // What the program `manual` writes (document 01, section 10): the definitions of `defs.typ`, then a pass over `main.typ`.
 ghost use mathlib.Core.Path.{_≡_};
 ghost use lib.ListN.{length};
-ghost use Rattle.rules.specs.Answer.{refused};
 ghost use Rattle.rules.specs.Calls.{passOf};
-ghost use Rattle.rules.specs.Manual.{outputFrom, setting, built, shown, manualOf};
-ghost use Rattle.manual_text.specs.Text.{mainText, Builds, Shows};
+ghost use Rattle.rules.specs.Manual.{outputFrom, setting, built, manualOf};
+ghost use Rattle.manual_text.specs.Text.{mainText, Builds};
 
 // What was built: number 0 and the length of the text in the output buffer, or the refusal's number.
 pub struct Built {
@@ -86,20 +85,6 @@ fn build(bundle: &[u8], out: &mut [u8]) -> Built
     pass_main(bundle, &sheet[..n], out)
 }
 
-// The text of a refusal: `refused N` and newline.
-fn refusal_text(number: u8, out: &mut [u8]) -> usize
-    requires { ⌜ 32768 ≡ length (now out) ⌝ }
-    ensures { λ r. ⌜ Shows (shown (refused number)) (now (out .entry)) (now (out .exit)) r ⌝ }
-{
-    buffers::store(out, 0, b"refused ");
-    if number < 10 {
-        buffers::store(out, 8, &[48 + number, b'\n']);
-        return 10;
-    }
-    buffers::store(out, 8, &[48 + number / 10, 48 + number % 10, b'\n']);
-    11
-}
-
 // What `manual` writes for a bundle: so many bytes at the start of `out`, and zero behind them.
 pub fn manual(bundle: &[u8], out: &mut [u8; 32768]) -> usize
     ensures { λ r. ⌜ manualOf (now (bundle .entry)) ≡ record { len = r; out = now (out .exit) } ⌝ }
@@ -108,7 +93,5 @@ pub fn manual(bundle: &[u8], out: &mut [u8; 32768]) -> usize
     if r.number == 0 {
         return r.len;
     }
-    let n = refusal_text(r.number, out);
-    buffers::clear_from(out, n);
-    n
+    refusals::refusal_text(r.number, out)
 }

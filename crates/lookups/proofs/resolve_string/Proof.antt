@@ -8,7 +8,7 @@ use Rattle.lookups.proofs.text_place.Reads as text-place-reads
 use Rattle.scan.proofs.is_ascii.Reads as is-ascii-reads
 use Rattle.sheet.proofs.lookup.lookup.Reads as lookup-reads
 use Rattle.sheet_layout.proofs.check.Reads as check-reads
-use mathlib.Core.Path.{refl, sym, _∙_}
+use mathlib.Core.Path.{sym, _∙_}
 use native.Mathlib.Omega.{arith}
 use borrow.Author.Tests.{not-true, not-false}
 use Rattle.sheet.specs.Use.{is-sheet}

@@ -1,10 +1,10 @@
 use borrow.Author.Needs.{needs}
-use Rattle.manual_text.proofs.refusal_text.Statement.{statement}
-use Rattle.manual_text.proofs.refusal_text.Tie as tie
-use Rattle.manual_text.proofs.refusal_text.Reads as reads
-use Rattle.manual_text.proofs.refusal_text.Lts as lts
+use Rattle.refusals.proofs.put_text.Statement.{statement}
+use Rattle.refusals.proofs.put_text.Tie as tie
+use Rattle.refusals.proofs.put_text.Reads as reads
+use Rattle.refusals.proofs.put_text.Lts as lts
 use Rattle.buffers.proofs.store.Reads as store-reads
-use Rattle.manual_text.specs.Text.{refusal-one, refusal-two}
+use Rattle.refusals.specs.Text.{refusal-one, refusal-two}
 
 slice-aggregate-store : tie.Need-slice-aggregate-store
 slice-aggregate-store c = search needs
@@ -45,8 +45,8 @@ same-length-2 c = search needs
 returns-2 : tie.Need-returns-2
 returns-2 c = refusal-two _ (search needs) (c .before .before .before .before .before .before .before .before .before .before .before .before .pre) (c .before .before .before .before .before .before .before .before .store .ensures) (c .before .before .store3 .ensures)
 
-pub refusal-text-spec : {M : Type 1} → statement M
-refusal-text-spec =
+pub put-text-spec : {M : Type 1} → statement M
+put-text-spec =
     tie.close
     (tie.spec
     slice-aggregate-store
