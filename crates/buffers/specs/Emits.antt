@@ -1,27 +1,26 @@
 -- What a step writes, put by the buffers' writer: the contracts of the writing functions, and one loop that writes step after step.
 use mathlib.Core.Path.{_≡_, refl, sym, ap, _∙_}
-use mathlib.Core.List.{List, [], _∷_, _++_, append-assoc, append-nil}
+use mathlib.Core.List.{List, [], _++_, append-assoc, append-nil}
 use mathlib.Core.Bool.{Bool, true, false, true≢false}
-use Prim.Native.Nat.{ℕ, suc, _+_, _-_, _≤_, _<_}
+use Prim.Native.Nat.{ℕ, _+_, _-_, _≤_, _<_}
 use native.Mathlib.Omega.{arith}
-use native.Mathlib.Decide.{decLe, decLt}
-use native.Mathlib.Nat.{add-zero, sub-zero}
+use native.Mathlib.Decide.{decLe}
+use native.Mathlib.Nat.{sub-zero}
 use lib.Dec.{leb}
-use lib.ListN.{length, length-append, take, set, length-set}
-use lib.Seq.{sets, length-sets, set-out, take-all, take-suc-set}
+use lib.ListN.{length, take, drop, length-append}
+use lib.Seq.{sets, sets-eq, length-take-le, take-append-seam, drop-at}
 use borrow.Author.Tests.{le-leb, lt-leb, leb-true, leb-false}
 use Rattle.rules.specs.Answer.{Answer, refused, accepted, _>>=_, _>>_, check}
 use Rattle.rules.specs.Run.{Emit, ok, put, fail, andThen, Did, Trace, fin, step, emitted, final, write, limited}
 use Rattle.rules.specs.Laws.Answer.{not-both, accepted-same}
 use Rattle.rules.specs.Laws.Limit.{write-inv}
-use Rattle.buffers.specs.Put.{Put}
-use Rattle.buffers.specs.Laws.{put-length, put-fits, put-not, put-ended, sets-append}
+use Rattle.buffers.specs.Put.{after, Put}
+use Rattle.buffers.specs.Laws.{after-fits, after-not, put-length, sets-append}
 
--- The text v stands in the buffer from p on, and the writer goes on at q. What lies behind q is not told.
+-- The text v is stored from p on, and the writer goes on behind it, at q.
 pub record Fill (b : List ℕ) (p : ℕ) (v c : List ℕ) (q : ℕ) : Type 0 where
-  pub size : length c ≡ length b
+  pub stored : c ≡ sets b p v
   pub place : q ≡ p + length v
-  pub holds : take q c ≡ take q (sets b p v)
 
 -- e is written from p on, and the writer goes on at q.
 pub record Writes (full room : ℕ) (e : Emit) (b : List ℕ) (p : ℕ) (c : List ℕ) (q : ℕ) : Type 0 where
@@ -117,37 +116,15 @@ write-refused full (put v e) f r k h = at (decLe (length v) r) (write-refused fu
     at (yes l) ih = write-fit full r v (andThen e f) l ∙ ap (before v) (ih (before-refused v (write full (r - length v) e) k (sym (write-fit full r v e l) ∙ h))) ∙ (unfold before in refl)
     at (no l) ih = write-full full r v (andThen e f) (omega arith) ∙ sym (write-full full r v e (omega arith)) ∙ h
 
--- FILLING. A text that is put fills; one text behind the other.
+-- FILLING. Nothing; one text behind the other.
 pub fill-none : (b : List ℕ) (p : ℕ) → Fill b p [] b p
-fill-none b p = record { size = refl; place = omega arith; holds = refl }
-
-pub put-fill : {room : ℕ} {b : List ℕ} {p : ℕ} {v c : List ℕ} {q : ℕ} → Put room b p v c q → p ≤ room + 2 → q ≤ room → Fill b p v c q
-put-fill {room} {b} {p} {v} {c} {q} s h k = record { size = put-length s; place = put-fits s h k; holds = ap (take q) (s .stored) }
-
--- Buffers that agree up to a place agree behind what is stored there.
-set-agree : (c d : List ℕ) (q x : ℕ) → length c ≡ length d → take q c ≡ take q d → take (suc q) (set c q x) ≡ take (suc q) (set d q x)
-set-agree c d q x l e = go (decLt q (length c))
-  where
-    go : Dec (q < length c) → take (suc q) (set c q x) ≡ take (suc q) (set d q x)
-    go (yes h) = take-suc-set c q x h ∙ ap (λ z. z ++ (x ∷ [])) e ∙ sym (take-suc-set d q x (omega arith))
-    go (no h) =
-        ap (take (suc q)) (set-out c q x (omega arith)) ∙ take-all (suc q) c (omega arith) ∙ sym (take-all q c (omega arith)) ∙ e ∙ take-all q d (omega arith)
-        ∙ sym (ap (take (suc q)) (set-out d q x (omega arith)) ∙ take-all (suc q) d (omega arith))
-
-sets-agree : (w c d : List ℕ) (q : ℕ) → length c ≡ length d → take q c ≡ take q d → take (q + length w) (sets c q w) ≡ take (q + length w) (sets d q w)
-sets-agree [] c d q l e = rw add-zero e
-sets-agree (x ∷ xs) c d q l e =
-    let z : q + suc (length xs) ≡ suc q + length xs = omega arith in
-    rw z (sets-agree xs (set c q x) (set d q x) (suc q) (length-set c q x ∙ l ∙ sym (length-set d q x)) (set-agree c d q x l e))
+fill-none b p = record { stored = refl; place = omega arith }
 
 pub fill-then : {b : List ℕ} {p : ℕ} {v c : List ℕ} {q : ℕ} {w d : List ℕ} {r : ℕ} → Fill b p v c q → Fill c q w d r → Fill b p (v ++ w) d r
-fill-then {b} {p} {v} {c} {q} {w} {d} {r} s t =
-    let l = length-append v w in
-    record {
-      size = t .size ∙ s .size;
-      place = omega (arith, s .place, t .place);
-      holds = t .holds ∙ ap (λ z. take z (sets c q w)) (t .place) ∙ sets-agree w c (sets b p v) q (s .size ∙ sym (length-sets b p v)) (s .holds) ∙ ap (λ z. take (q + length w) (sets (sets b p v) z w)) (s .place) ∙ ap (take (q + length w)) (sets-append b p v w) ∙ ap (λ z. take z (sets b p (v ++ w))) (sym (t .place));
-    }
+fill-then {b} {p} {v} {c} {q} {w} s t = record {
+  stored = t .stored ∙ ap (λ z. sets z q w) (s .stored) ∙ ap (λ z. sets (sets b p v) z w) (s .place) ∙ sets-append b p v w;
+  place = omega (arith, s .place, t .place, length-append v w);
+}
 
 -- A LOOP that writes e: its text so far stands in the buffer, the writer is at q, and f is left.
 pub record Going (full room : ℕ) (e : Emit) (b : List ℕ) (p : ℕ) (c : List ℕ) (q : ℕ) (f : Emit) : Type 0 where
@@ -182,31 +159,29 @@ module _ {full room : ℕ} {e : Emit} {b : List ℕ} {p : ℕ} {c : List ℕ} {q
   pub going-end : Going full room e b p c q ok → Writes full room e b p c q
   going-end g = record { text = g .text; fills = g .fills; fits = g .fits; says = g .left ∙ (unfold write before in ap accepted (append-nil (g .text))) }
 
--- A piece that is put: it fits, or not.
+-- A piece that is put if it fits; if not, the buffer's bytes are not told.
 pub record Fills (room : ℕ) (b : List ℕ) (p : ℕ) (v c : List ℕ) (q : ℕ) : Type 0 where
   pub size : length c ≡ length b
-  pub bound : q ≤ room + 2
-  pub fills : q ≤ room → Fill b p v c q
-  pub over : room < q → room < p + length v
+  pub place : q ≡ after room p (length v)
+  pub stored : q ≤ room → c ≡ sets b p v
 
-pub put-fills : {room : ℕ} {b : List ℕ} {p : ℕ} {v c : List ℕ} {q : ℕ} → p ≤ room + 2 → Put room b p v c q → Fills room b p v c q
-put-fills h s = record { size = put-length s; bound = put-ended s h .0; fills = λ k. put-fill s h k; over = λ k. put-not s h k }
-
-pub fills-room : {room space : ℕ} {b : List ℕ} {p : ℕ} {v c : List ℕ} {q : ℕ} → room ≡ space → Fills room b p v c q → Fills space b p v c q
-fills-room e f = rw e at f
+pub put-fills : {room : ℕ} {b : List ℕ} {p : ℕ} {v c : List ℕ} {q : ℕ} → Put room b p v c q → Fills room b p v c q
+put-fills s = record { size = put-length s; place = s .place; stored = λ k. s .stored }
 
 pub emits-fills : {full room : ℕ} {b : List ℕ} {p : ℕ} {v c : List ℕ} {q : ℕ} → p ≤ room → Fills room b p v c q → Emits full room (put v ok) b p c (leb q room) full q
 emits-fills {full} {room} {b} {p} {v} {c} {q} h s = record {
   size = s .size;
   goes = λ z.
       let f = leb-true q room z in
-      let m = s .fills f in
-      record { text = v; fills = m; fits = f; says = write-fit full (room - p) v ok (omega (arith, m .place)) ∙ (unfold write before in ap accepted (append-nil v)) };
-  stops = λ z. write-full full (room - p) v ok (omega (arith, s .over (leb-false q room z)));
+      let e = s .place ∙ after-fits room p (length v) (omega (arith, s .place)) in
+      record { text = v; fills = record { stored = s .stored f; place = e }; fits = f; says = write-fit full (room - p) v ok (omega arith) ∙ (unfold write before in ap accepted (append-nil v)) };
+  stops = λ z.
+      let n = leb-false q room z in
+      write-full full (room - p) v ok (omega (arith, after-not room p (length v) (omega (arith, s .place))));
 }
 
 pub emits-put : {full room : ℕ} {b : List ℕ} {p : ℕ} {v c : List ℕ} {q : ℕ} → p ≤ room → Put room b p v c q → Emits full room (put v ok) b p c (leb q room) full q
-emits-put h s = emits-fills h (put-fills (omega arith) s)
+emits-put h s = emits-fills h (put-fills s)
 
 -- Nothing.
 pub emits-ok : (full room : ℕ) (b : List ℕ) (p k : ℕ) → p ≤ room → Emits full room ok b p b true k p
@@ -219,6 +194,35 @@ emits-ok full room b p k h = record {
 -- A refusal.
 pub emits-fail : (full room : ℕ) (b : List ℕ) (p k q : ℕ) → Emits full room (fail k) b p b false k q
 emits-fail full room b p k q = record { size = refl; goes = λ z. absurd (true≢false (sym z)); stops = λ z. (unfold write in refl) }
+
+-- THE SAME FOR EVERY BUFFER: what is answered does not depend on it.
+module _ {full room : ℕ} {e : Emit} {p : ℕ} {b c : List ℕ} {fine : Bool} {k q : ℕ} (s : Emits full room e b p c fine k q) {b₂ c₂ : List ℕ} {fine₂ : Bool} {k₂ q₂ : ℕ} (t : Emits full room e b₂ p c₂ fine₂ k₂ q₂) where
+  pub same-fine : fine ≡ fine₂
+  same-fine = at fine fine₂ refl refl
+    where
+      at : (x y : Bool) → fine ≡ x → fine₂ ≡ y → fine ≡ fine₂
+      at true true u v = u ∙ sym v
+      at false false u v = u ∙ sym v
+      at true false u v = absurd (not-both (sym (t .stops v) ∙ s .goes u .says))
+      at false true u v = absurd (not-both (sym (s .stops u) ∙ t .goes v .says))
+
+  pub same-number : fine ≡ false → k ≡ k₂
+  same-number h = let z = sym (s .stops h) ∙ t .stops (sym same-fine ∙ h) in cc
+
+  pub same-place : fine ≡ true → q ≡ q₂
+  same-place h =
+      let w = s .goes h in
+      let y = t .goes (sym same-fine ∙ h) in
+      w .fills .place ∙ ap (λ z. p + length z) (accepted-same (sym (w .says) ∙ y .says)) ∙ sym (y .fills .place)
+
+-- In a buffer as long as the room the whole text stands.
+pub emits-stands : {full room : ℕ} {e : Emit} {p : ℕ} {b c : List ℕ} {k q : ℕ} (s : Emits full room e b p c true k q) → length b ≡ room → take (q - p) (drop p c) ≡ s .goes refl .text
+emits-stands {room = room} {p = p} {b = b} {c = c} {q = q} s l =
+    let w = s .goes refl in
+    let v = w .text in
+    let n : q - p ≡ length v = omega (arith, w .fills .place) in
+    let h : length (take p b) ≡ p = length-take-le p b (omega (arith, w .fills .place, w .fits)) in
+    ap (λ z. take (q - p) (drop p z)) (w .fills .stored ∙ sets-eq v b p (omega (arith, w .fills .place, w .fits)) ∙ append-assoc (take p b) v (drop (p + length v) b)) ∙ ap (take (q - p)) (drop-at (take p b) (v ++ drop (p + length v) b) p h) ∙ ap (λ z. take z (v ++ drop (p + length v) b)) n ∙ take-append-seam v (drop (p + length v) b)
 
 -- A RUN with a limit for its state: what each step writes, or 9.
 module _ {S : Type 0} (size : S → ℕ) (L : ℕ) where

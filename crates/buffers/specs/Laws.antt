@@ -1,98 +1,46 @@
 -- Laws of the writer: texts put one after the other, and when all has fitted.
 use mathlib.Core.Path.{_≡_, refl, sym, ap, _∙_}
-use mathlib.Core.List.{List, [], _∷_, _++_}
-use mathlib.Core.Bool.{Bool, true, false, _&&_, _||_, true≢false}
+use mathlib.Core.List.{List, [], _∷_, _++_, append-nil}
 use Prim.Native.Nat.{ℕ, zero, suc, _+_, _-_, _≤_, _<_, min}
 use native.Mathlib.Omega.{arith}
 use native.Mathlib.Numerals.{add-one}
 use native.Mathlib.Nat.{add-zero, sub-zero, suc-sub-suc}
-use native.Mathlib.Decide.{decLe}
-use lib.Dec.{leb, ltb, eqb, eqb·suc-zero}
-use lib.ListN.{length, take, drop, getD, set, length-drop, take-append-drop}
-use lib.Seq.{sets, sets-eq, set-out, set-comm, take-set-le, length-sets, length-take-le, take-suc, take-all, take-append-seam}
-use borrow.Author.Tests.{lt-ltb, le-ltb, le-leb, lt-leb}
-use Rattle.rules.specs.Reader.{all}
-use Rattle.rules.specs.Bytes.{blank}
+use native.Mathlib.Decide.{decLe, decLt}
+use lib.ListN.{length, take, drop, getD, set, length-append, length-take, take-append-drop, drop-of-length-le}
+use lib.Seq.{sets, sets-eq, set-out, set-comm, take-set-le, take-set-lt, drop-set-lt, length-sets, length-take-le, take-suc, take-all, take-append-seam}
 use Rattle.rules.specs.Calls.{zeros, padded}
-use Rattle.rules.specs.Laws.Bool.{and-l, and-r, and-i, or-l, or-false-l, or-false-r, true-leb, true-ltb, false-ltb, false-eqb}
-use Rattle.buffers.specs.Put.{step, after, overflow, Writer, Put}
+use Rattle.buffers.specs.Put.{after, Writer, Put}
 
 -- PLACES.
-pub after-append : (room p : ℕ) (v w : List ℕ) → after room p (v ++ w) ≡ after room (after room p v) w
+module _ (room p n : ℕ) where
+  pub after-fits : after room p n ≤ room → after room p n ≡ p + n
+  unfolding after
+  after-fits h = omega arith
+
+  pub after-inside : p + n ≤ room → after room p n ≡ p + n
+  unfolding after
+  after-inside h = omega arith
+
+  pub after-not : room < after room p n → room < p + n
+  unfolding after
+  after-not h = omega arith
+
+  pub after-bound : after room p n ≤ room + 1
+  unfolding after
+  after-bound = omega arith
+
+  -- What was measured as far as the room goes counts as the whole.
+  pub after-measured : after room p (after room 0 n) ≡ after room p n
+  unfolding after
+  after-measured = omega arith
+
+  pub after-more : (m : ℕ) → after room (after room p n) m ≡ after room p (n + m)
+  unfolding after
+  after-more m = omega arith
+
+pub after-none : {room p : ℕ} → Writer room p → after room p 0 ≡ p
 unfolding after
-after-append room p [] w = refl
-after-append room p (x ∷ xs) w = after-append room (step room p x) xs w
-
-step-on : (room p x : ℕ) → p < room → step room p x ≡ p + 1
-unfolding step
-step-on room p x h = rw (lt-ltb p room h, step)
-
-step-past : (room p x : ℕ) (c : Bool) → blank x ≡ c → room ≤ p → p ≤ room + 1 → step room p x ≡ overflow room c
-unfolding step overflow
-step-past room p x true q h k = rw (le-ltb p room h, le-leb p (room + 1) k, q, step)
-step-past room p x false q h k = rw (le-ltb p room h, le-leb p (room + 1) k, q, step)
-
-step-over : (room x : ℕ) → step room (room + 2) x ≡ room + 2
-unfolding step
-step-over room x = rw (le-ltb (room + 2) room (omega arith), lt-leb (room + 2) (room + 1) (omega arith), step)
-
-pub after-fits : (room p : ℕ) (v : List ℕ) → p + length v ≤ room → after room p v ≡ p + length v
-unfolding after
-after-fits room p [] h = sym (add-zero p)
-after-fits room p (x ∷ xs) h = rw (step-on room p x (omega arith)) (after-fits room (p + 1) xs (omega arith) ∙ omega arith)
-
-pub after-over : (room : ℕ) (v : List ℕ) → after room (room + 2) v ≡ room + 2
-unfolding after
-after-over room [] = refl
-after-over room (x ∷ xs) = rw (step-over room x) (after-over room xs)
-
-overflow-more : (room x : ℕ) (xs : List ℕ) (c : Bool) → blank x ≡ c → ((p : ℕ) → room ≤ p → p ≤ room + 1 → 0 < length xs → after room p xs ≡ overflow room (all blank xs)) → after room (overflow room c) xs ≡ overflow room (c && all blank xs)
-unfolding overflow
-overflow-more room x [] true q ih = unfold after all in refl
-overflow-more room x (y ∷ ys) true q ih = ih (room + 1) (omega arith) (omega arith) (omega arith)
-overflow-more room x xs false q ih = after-over room xs
-
-pub after-overflow : (room p : ℕ) (v : List ℕ) → room ≤ p → p ≤ room + 1 → 0 < length v → after room p v ≡ overflow room (all blank v)
-unfolding after all
-after-overflow room p [] h k l = absurd (omega arith)
-after-overflow room p (x ∷ xs) h k l =
-    ap (λ z. after room z xs) (step-past room p x (blank x) refl h k) ∙ overflow-more room x xs (blank x) refl (λ q a b c. after-overflow room q xs a b c)
-
-pub after-split : (room p : ℕ) (v : List ℕ) → p ≤ room → room < p + length v → after room p v ≡ overflow room (all blank (drop (room - p) v))
-after-split room p v h k =
-    let n = room - p in
-    let l : length (take n v) ≡ n = length-take-le n v (omega arith) in
-    let e : after room p (take n v) ≡ room = after-fits room p (take n v) (omega arith) ∙ omega arith in
-    let d : 0 < length (drop n v) = omega (arith, length-drop n v) in
-    ap (after room p) (sym (take-append-drop n v)) ∙ after-append room p (take n v) (drop n v) ∙ ap (λ z. after room z (drop n v)) e ∙ after-overflow room room (drop n v) (omega arith) (omega arith) d
-
-overflow-bounds : (room : ℕ) (c : Bool) → (room < overflow room c) × (overflow room c ≤ room + 2)
-unfolding overflow
-overflow-bounds room true = (omega arith, omega arith)
-overflow-bounds room false = (omega arith, omega arith)
-
--- Where a text ends up: it has fitted, or the writer is past its room.
-pub record Ended (room p : ℕ) (v : List ℕ) : Type 0 where
-  pub bound : after room p v ≤ room + 2
-  pub on : p ≤ after room p v
-  pub fits : after room p v ≤ room → after room p v ≡ p + length v
-  pub not : room < after room p v → room < p + length v
-
-ended-fits : (room p : ℕ) (v : List ℕ) → p + length v ≤ room → Ended room p v
-ended-fits room p v h = let e = after-fits room p v h in record { bound = omega arith; on = omega arith; fits = λ k. e; not = λ k. absurd (omega arith) }
-
-ended-overflow : (room p : ℕ) (v : List ℕ) (c : Bool) → after room p v ≡ overflow room c → p ≤ room + 1 → room < p + length v → Ended room p v
-ended-overflow room p v c e h k = let b = overflow-bounds room c in record { bound = omega arith; on = omega arith; fits = λ z. absurd (omega arith); not = λ z. k }
-
-pub ended : (room p : ℕ) (v : List ℕ) → p ≤ room + 2 → Ended room p v
-ended room p v h = go (decLe p room) (decLe (p + length v) room) (decLe p (room + 1)) v refl
-  where
-    go : Dec (p ≤ room) → Dec (p + length v ≤ room) → Dec (p ≤ room + 1) → (w : List ℕ) → w ≡ v → Ended room p v
-    go a (yes b) c w q = ended-fits room p v b
-    go (yes a) (no b) c w q = ended-overflow room p v _ (after-split room p v a (omega arith)) (omega arith) (omega arith)
-    go (no a) (no b) (yes c) [] q = let e : after room p v ≡ p = ap (after room p) (sym q) ∙ (unfold after in refl) in record { bound = omega arith; on = omega arith; fits = λ k. absurd (omega arith); not = λ k. omega arith }
-    go (no a) (no b) (yes c) (x ∷ xs) q = ended-overflow room p v _ (after-overflow room p v (omega arith) c (omega (arith, ap length q))) c (omega arith)
-    go (no a) (no b) (no c) w q = let e : p ≡ room + 2 = omega arith in let f : after room p v ≡ room + 2 = ap (λ z. after room z v) e ∙ after-over room v in record { bound = omega arith; on = omega arith; fits = λ k. absurd (omega arith); not = λ k. omega arith }
+after-none w = omega (arith, w .place)
 
 -- STORES.
 pub sets-out : (b : List ℕ) (p : ℕ) (v : List ℕ) → length b ≤ p → sets b p v ≡ b
@@ -140,43 +88,59 @@ sets-clipped b p t i h k = go (decLe (length t) i)
         let e : sets (sets b p (take i t)) (p + length (take i t)) (drop i t) ≡ sets b p t = sets-append b p (take i t) (drop i t) ∙ ap (sets b p) (take-append-drop i t) in
         sym (sets-out (sets b p (take i t)) (p + length (take i t)) (drop i t) (omega (arith, length-sets b p (take i t)))) ∙ e
 
+-- What a first part of a buffer, lent for writing, leaves in it: the text up to the part's end.
+sets-lent : (v b : List ℕ) (e k : ℕ) → k ≤ e → sets (take e b) k v ++ drop e b ≡ sets b k (take (e - k) v)
+sets-lent [] b e k h = take-append-drop e b ∙ ap (sets b k) (sym (take-all (e - k) [] (omega arith)))
+sets-lent (x ∷ xs) b e k h = go (decLt k e) (λ l. sets-lent xs (set b k x) e (suc k) l)
+  where
+    go : Dec (k < e) → (k < e → sets (take e (set b k x)) (suc k) xs ++ drop e (set b k x) ≡ sets (set b k x) (suc k) (take (e - suc k) xs)) → sets (set (take e b) k x) (suc k) xs ++ drop e b ≡ sets b k (take (e - k) (x ∷ xs))
+    go (yes l) ih =
+        let z : e - k ≡ suc (e - suc k) = omega arith in
+        rw z (sym (ap (λ y. sets y (suc k) xs ++ drop e (set b k x)) (take-set-lt e b k x l) ∙ ap (λ y. sets (set (take e b) k x) (suc k) xs ++ y) (drop-set-lt e b k x l)) ∙ ih l)
+    go (no l) ih =
+        let z : e - k ≡ 0 = omega arith in
+        let y : length (take e b) ≤ k = omega (arith, length-take e b) in
+        rw z (ap (λ u. u ++ drop e b) (sets-out (take e b) k (x ∷ xs) y) ∙ take-append-drop e b)
+
+pub lent-first : (v b : List ℕ) (e k : ℕ) {c : List ℕ} → c ≡ sets (take e b) k v → k ≤ e → c ++ drop e b ≡ sets b k (take (e - k) v)
+lent-first v b e k q h = ap (λ z. z ++ drop e b) q ∙ sets-lent v b e k h
+
+pub sets-first : (v b : List ℕ) (e k : ℕ) → k ≤ e → length b ≤ e → sets b k v ≡ sets b k (take (e - k) v)
+sets-first v b e k h l = sym (append-nil (sets b k v)) ∙ ap (λ z. sets z k v ++ []) (sym (take-all e b l)) ∙ ap (λ z. sets (take e b) k v ++ z) (sym (drop-of-length-le b l)) ∙ sets-lent v b e k h
+
 -- What is stored at the start.
 pub stored-first : (b t : List ℕ) → length t ≤ length b → take (length t) (sets b 0 t) ≡ t
 stored-first b t h = rw (sets-eq t b 0 (omega arith)) (take-append-seam t _)
 
 -- TEXTS put one after the other, into a buffer that is no longer than the room.
-pub put-none : (room : ℕ) (b : List ℕ) (p : ℕ) → Put room b p [] b p
-unfolding after
-put-none room b p = record { stored = refl; place = refl }
+pub put-none : {room p : ℕ} → Writer room p → (b : List ℕ) → Put room b p [] b p
+put-none w b = record { stored = refl; place = sym (after-none w) }
 
 module _ {room : ℕ} {b : List ℕ} {p : ℕ} {v c : List ℕ} {q : ℕ} (s : Put room b p v c q) where
-  pub put-ended : p ≤ room + 2 → (q ≤ room + 2) × (p ≤ q)
-  put-ended h = let e = ended room p v h in (omega (arith, s .place, e .bound), omega (arith, s .place, e .on))
-
   pub put-writer : Writer room p → Writer room q
-  put-writer w = record { place = put-ended (w .place) .0; fits = w .fits }
+  put-writer w = record { place = omega (arith, s .place, after-bound room p (length v)); fits = w .fits }
 
   pub put-length : length c ≡ length b
   put-length = ap length (s .stored) ∙ length-sets b p v
 
   -- All has fitted, or not.
-  pub put-fits : p ≤ room + 2 → q ≤ room → q ≡ p + length v
-  put-fits h k = s .place ∙ ended room p v h .fits (rw (s .place) at k)
+  pub put-fits : q ≤ room → q ≡ p + length v
+  put-fits k = s .place ∙ after-fits room p (length v) (omega (arith, s .place))
 
-  pub put-not : p ≤ room + 2 → room < q → room < p + length v
-  put-not h k = ended room p v h .not (rw (s .place) at k)
+  pub put-not : room < q → room < p + length v
+  put-not k = after-not room p (length v) (omega (arith, s .place))
 
-  pub put-then : {w d : List ℕ} {r : ℕ} → length b ≤ room → p ≤ room + 2 → Put room c q w d r → Put room b p (v ++ w) d r
-  put-then {w} {d} {r} l h t = record {
+  pub put-then : {w d : List ℕ} {r : ℕ} → length b ≤ room → Put room c q w d r → Put room b p (v ++ w) d r
+  put-then {w} {d} {r} l t = record {
     stored = t .stored ∙ go (decLe q room);
-    place = t .place ∙ ap (λ z. after room z w) (s .place) ∙ sym (after-append room p v w);
+    place = t .place ∙ ap (λ z. after room z (length w)) (s .place) ∙ after-more room p (length v) (length w) ∙ ap (after room p) (sym (length-append v w));
   }
     where
       go : Dec (q ≤ room) → sets c q w ≡ sets b p (v ++ w)
-      go (yes k) = ap (λ z. sets z q w) (s .stored) ∙ ap (λ z. sets (sets b p v) z w) (put-fits h k) ∙ sets-append b p v w
+      go (yes k) = ap (λ z. sets z q w) (s .stored) ∙ ap (λ z. sets (sets b p v) z w) (put-fits k) ∙ sets-append b p v w
       go (no k) =
           sets-out c q w (omega (arith, put-length)) ∙ s .stored
-          ∙ sym (sets-out (sets b p v) (p + length v) w (omega (arith, length-sets b p v, put-not h (omega arith)))) ∙ sets-append b p v w
+          ∙ sym (sets-out (sets b p v) (p + length v) w (omega (arith, length-sets b p v, put-not (omega arith)))) ∙ sets-append b p v w
 
 -- ZEROS.
 unfoldable pub zeroFrom : ℕ → List ℕ → List ℕ
@@ -208,39 +172,3 @@ zero-padded zero [] h = refl
 zero-padded zero (x ∷ l) h = rw sub-zero (ap (λ r. 0 ∷ r) (zero-padded zero l (omega arith) ∙ rw sub-zero refl))
 zero-padded (suc k) [] h = absurd (omega arith)
 zero-padded (suc k) (x ∷ l) h = rw suc-sub-suc (ap (λ r. x ∷ r) (zero-padded k l (omega arith)))
-
--- THE CODE'S WAYS.
-pub byte-on : (room p x : ℕ) → p < room → p + 1 ≡ after room p (x ∷ [])
-unfolding after
-byte-on room p x h = sym (step-on room p x h)
-
-pub byte-soft : (room p x : ℕ) (c : Bool) → c ≡ blank x → room ≤ p → (leb p (room + 1) && c) ≡ true → room + 1 ≡ after room p (x ∷ [])
-unfolding after overflow
-byte-soft room p x c e h k = sym (step-past room p x true (sym e ∙ and-r (leb p (room + 1)) c k) h (true-leb p (room + 1) (and-l (leb p (room + 1)) c k)))
-
-pub byte-full : (room p x : ℕ) (c : Bool) → c ≡ blank x → room ≤ p → p ≤ room + 2 → (leb p (room + 1) && c) ≡ false → room + 2 ≡ after room p (x ∷ [])
-unfolding after overflow
-byte-full room p x true e h l k = go (decLe p (room + 1))
-  where
-    go : Dec (p ≤ room + 1) → room + 2 ≡ step room p x
-    go (yes m) = absurd (true≢false (sym (and-i (leb p (room + 1)) true (le-leb p (room + 1) m) refl) ∙ k))
-    go (no m) = let q : p ≡ room + 2 = omega arith in sym (ap (λ z. step room z x) q ∙ step-over room x)
-byte-full room p x false e h l k = go (decLe p (room + 1))
-  where
-    go : Dec (p ≤ room + 1) → room + 2 ≡ step room p x
-    go (yes m) = sym (step-past room p x false (sym e) h m)
-    go (no m) = let q : p ≡ room + 2 = omega arith in sym (ap (λ z. step room z x) q ∙ step-over room x)
-
-pub after-stays : (room p : ℕ) (v : List ℕ) → p ≤ room + 2 → (ltb (room + 1) p || eqb (length v) 0) ≡ true → p ≡ after room p v
-unfolding after
-after-stays room p [] h k = refl
-after-stays room p (x ∷ xs) h k =
-    let m = true-ltb (room + 1) p (or-l (ltb (room + 1) p) _ k (eqb·suc-zero (length xs))) in
-    let q : p ≡ room + 2 = omega arith in
-    q ∙ sym (ap (λ z. after room z (x ∷ xs)) q ∙ after-over room (x ∷ xs))
-
-pub after-past : (room p : ℕ) (v : List ℕ) → room < p → (ltb (room + 1) p || eqb (length v) 0) ≡ false → overflow room (all blank (drop 0 v)) ≡ after room p v
-after-past room p v h k =
-    let a = false-ltb (room + 1) p (or-false-l (ltb (room + 1) p) _ k) in
-    let b = false-eqb (length v) 0 (or-false-r (ltb (room + 1) p) _ k) in
-    sym (after-overflow room p v (omega arith) a (omega arith))

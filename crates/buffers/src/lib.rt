@@ -4,10 +4,8 @@ ghost use mathlib.Core.List.{[], _∷_};
 ghost use Prim.Native.Nat.{_+_, _-_, _^_, _≤_, _<_, min};
 ghost use lib.ListN.{length, take, drop};
 ghost use lib.Seq.{sets};
-ghost use Rattle.rules.specs.Reader.{all};
-ghost use Rattle.rules.specs.Bytes.{blank};
 ghost use Rattle.rules.specs.Calls.{padded};
-ghost use Rattle.buffers.specs.Put.{overflow, after, Put, Writer};
+ghost use Rattle.buffers.specs.Put.{after, Writer, Put};
 
 // How many bytes of a text of n bytes a buffer of m bytes takes from a place on.
 fn clipped(m: usize, at: usize, n: usize) -> usize
@@ -34,33 +32,18 @@ pub fn store(out: &mut [u8], at: usize, text: &[u8])
     }
 }
 
-// Where a writer goes on that has no room for the bytes of a text from a place on.
-fn overflow(room: usize, text: &[u8], at: usize) -> usize
-    requires { ⌜ (at ≤ length (now text)) × (room + 2 < 2 ^ 64) ⌝ }
-    ensures { λ r. ⌜ r ≡ overflow room (all blank (drop at (now (text .entry)))) ⌝ }
+// Where a writer at p goes on behind n bytes: up to the room all has fitted, beyond it not.
+pub fn after(room: usize, p: usize, n: usize) -> usize
+    requires { ⌜ room + 1 < 2 ^ 64 ⌝ }
+    ensures { λ r. ⌜ r ≡ after room p n ⌝ }
 {
-    if scan::span(text, at, scan::Set::Blank) == text.len() {
+    if room < p {
         return room + 1;
     }
-    room + 2
-}
-
-// Where a writer at p goes on behind a text.
-pub fn after(room: usize, p: usize, text: &[u8]) -> usize
-    requires { ⌜ Writer room p ⌝ }
-    ensures { λ r. ⌜ r ≡ after room p (now (text .entry)) ⌝ }
-{
-    if p <= room {
-        let left = room - p;
-        if text.len() <= left {
-            return p + text.len();
-        }
-        return overflow(room, text, left);
+    if room - p < n {
+        return room + 1;
     }
-    if (room + 1 < p) | (text.len() == 0) {
-        return p;
-    }
-    overflow(room, text, 0)
+    p + n
 }
 
 // Puts a text behind what the writer at p has written. An empty buffer measures and writes nothing.
@@ -69,7 +52,7 @@ pub fn put(out: &mut [u8], room: usize, p: usize, text: &[u8]) -> usize
     ensures { λ r. ⌜ Put room (now (out .entry)) p (now (text .entry)) (now (out .exit)) r ⌝ }
 {
     store(out, p, text);
-    after(room, p, text)
+    after(room, p, text.len())
 }
 
 // Stores one byte, if there is a place for it.
@@ -81,27 +64,13 @@ fn store_byte(out: &mut [u8], at: usize, x: u8)
     }
 }
 
-// Where a writer at p goes on behind one byte.
-fn step(room: usize, p: usize, x: u8) -> usize
-    requires { ⌜ Writer room p ⌝ }
-    ensures { λ r. ⌜ r ≡ after room p (x ∷ []) ⌝ }
-{
-    if p < room {
-        return p + 1;
-    }
-    if (p <= room + 1) & scan::member(scan::Set::Blank, x) {
-        return room + 1;
-    }
-    room + 2
-}
-
 // Puts one byte.
 pub fn put_byte(out: &mut [u8], room: usize, p: usize, x: u8) -> usize
     requires { ⌜ Writer room p ⌝ }
     ensures { λ r. ⌜ Put room (now (out .entry)) p (x ∷ []) (now (out .exit)) r ⌝ }
 {
     store_byte(out, p, x);
-    step(room, p, x)
+    after(room, p, 1)
 }
 
 // Zeros from a place on.

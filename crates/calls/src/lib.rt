@@ -1,5 +1,5 @@
-// Calls (document 01, section 5): raw and link, read whole, then written.
-pub mod values;
+// Calls (document 01, section 5): what a call comes to, and what the texts that it takes measure.
+pub mod measure;
 
 // What a call comes to: handed back; refused; an output, and whether the call ends on its own `)` or `]`.
 pub enum Outcome {

@@ -31,16 +31,16 @@ use Rattle.expansion_steps.specs.Step.{Took, Steps}
 
 -- What expanding t, from the records s on, came to: what is written, or 9; and, if all is written, whether each step is whole, and the
 -- records that m holds.
-pub record Runs (limit full : ℕ) (v : View) (s : Records) (t b : List ℕ) (p : ℕ) (c m : List ℕ) (r : Expanded) : Type 0 where
-  pub emits : Emits full (length b) (guarded sheetLength limit (expansion v s t)) b p c (r .ok) (r .number) (r .next)
+pub record Runs (limit full room : ℕ) (v : View) (s : Records) (t b : List ℕ) (p : ℕ) (c m : List ℕ) (r : Expanded) : Type 0 where
+  pub emits : Emits full room (guarded sheetLength limit (expansion v s t)) b p c (r .ok) (r .number) (r .next)
   pub wholes : r .ok ≡ true → allWhole (expansion v s t) ≡ r .whole
   pub holds : r .ok ≡ true → Holds (final (expansion v s t)) m (r .len) limit
 
 -- The text t is expanded, for the records in the first n bytes of l: into b, from p on; c and m are left.
-pub record Expands (limit full : ℕ) (v : View) (t b : List ℕ) (p : ℕ) (c l : List ℕ) (n : ℕ) (m : List ℕ) (r : Expanded) : Type 0 where
+pub record Expands (limit full room : ℕ) (v : View) (t b : List ℕ) (p : ℕ) (c l : List ℕ) (n : ℕ) (m : List ℕ) (r : Expanded) : Type 0 where
   pub size : length c ≡ length b
   pub left-size : length m ≡ length l
-  pub does : (s : Records) → Holds s l n limit → Runs limit full v s t b p c m r
+  pub does : (s : Records) → Holds s l n limit → Runs limit full room v s t b p c m r
 
 -- PLAIN TEXT. Another byte than `#` is copied.
 module _ (v : View) where
@@ -71,7 +71,7 @@ is-byte x c h = at (eqb x c) refl h
     at false e z = absurd (true≢false z)
 
 -- THE LOOP. s₀: the records given; t: the text, expanded up to i.
-module _ (limit full : ℕ) (v : View) (t b : List ℕ) (p : ℕ) where
+module _ (limit full room : ℕ) (v : View) (t b : List ℕ) (p : ℕ) where
   abbrev Left : Records → ℕ → Trace Records
   Left s i = run (expansionStep v) s 0 (drop i t)
 
@@ -81,7 +81,7 @@ module _ (limit full : ℕ) (v : View) (t b : List ℕ) (p : ℕ) where
   -- Of the run from s₀ on the text up to i is expanded, the writer is at q, and m holds the records.
   pub record Halfway (s₀ : Records) (c m : List ℕ) (i q len : ℕ) (w : Bool) : Type 0 where
     pub s : Records
-    pub going : Going full (length b) (Emitted (expansion v s₀ t)) b p c q (Emitted (Left s i))
+    pub going : Going full room (Emitted (expansion v s₀ t)) b p c q (Emitted (Left s i))
     pub wholes : allWhole (expansion v s₀ t) ≡ (w && allWhole (Left s i))
     pub finals : final (expansion v s₀ t) ≡ final (Left s i)
     pub holds : Holds s m len limit
@@ -91,11 +91,11 @@ module _ (limit full : ℕ) (v : View) (t b : List ℕ) (p : ℕ) where
     pub inside : i ≤ length t
     pub size : length c ≡ length b
     pub left-size : length m ≡ length l
-    pub place : q ≤ length b
+    pub place : q ≤ room
     pub keeps : Keeps m len limit
     pub halfway : (s : Records) → Holds s l n limit → Halfway s c m i q len w
 
-  pub expanding-start : {l : List ℕ} {n : ℕ} → p ≤ length b → Keeps l n limit → Expanding l n b l 0 p n true
+  pub expanding-start : {l : List ℕ} {n : ℕ} → p ≤ room → Keeps l n limit → Expanding l n b l 0 p n true
   unfolding expansion
   expanding-start h k = record {
     given = k;
@@ -104,10 +104,10 @@ module _ (limit full : ℕ) (v : View) (t b : List ℕ) (p : ℕ) where
     left-size = refl;
     place = h;
     keeps = k;
-    halfway = λ s z. record { s = s; going = going-start full (length b) (Emitted (expansion v s t)) b p h; wholes = refl; finals = refl; holds = z };
+    halfway = λ s z. record { s = s; going = going-start full room (Emitted (expansion v s t)) b p h; wholes = refl; finals = refl; holds = z };
   }
 
-  module _ {l : List ℕ} {n : ℕ} {c m : List ℕ} {i q len : ℕ} {w : Bool} (E : Expanding l n c m i q len w) {j : ℕ} (X : Spans (notByte 35) t i j) {d : List ℕ} {r : ℕ} (P : Put (length b) c q (part t i j) d r) where
+  module _ {l : List ℕ} {n : ℕ} {c m : List ℕ} {i q len : ℕ} {w : Bool} (E : Expanding l n c m i q len w) {j : ℕ} (X : Spans (notByte 35) t i j) {d : List ℕ} {r : ℕ} (P : Put room c q (part t i j) d r) where
     -- The text before the `#` is one piece.
     module _ {s₀ : Records} (h : Holds s₀ l n limit) where
       abbrev half : Halfway s₀ c m i q len w
@@ -119,12 +119,12 @@ module _ (limit full : ℕ) (v : View) (t b : List ℕ) (p : ℕ) where
       behind : (A : Type 0) (f : Trace Records → A) → f (run (expansionStep v) (afterAll (λ s x. s) (half .s) (part t i j)) 0 (drop j t)) ≡ f (Left (half .s) j)
       behind A f = ap (λ z. f (run (expansionStep v) z 0 (drop j t))) (afterAll-same (λ s x. s) (λ s x. refl) (half .s) (part t i j))
 
-      before-hash : Going full (length b) (Emitted (expansion v s₀ t)) b p c q (andThen (put (part t i j) ok) (Emitted (Left (half .s) j)))
+      before-hash : Going full room (Emitted (expansion v s₀ t)) b p c q (andThen (put (part t i j) ok) (Emitted (Left (half .s) j)))
       unfolding andThen
-      before-hash = going-same (piece .writes full (length b - q) ∙ behind _ (λ z. write full (length b - q) (put (part t i j) (Emitted z)))) (half .going)
+      before-hash = going-same (piece .writes full (room - q) ∙ behind _ (λ z. write full (room - q) (put (part t i j) (Emitted z)))) (half .going)
 
-    refuse : {k x y : ℕ} {z : Bool} {e m₂ : List ℕ} → length e ≡ length b → length m₂ ≡ length l → ((s : Records) → Holds s l n limit → write full (length b - p) (Emitted (expansion v s t)) ≡ refused k) →
-        Expands limit full v t b p e l n m₂ (record { ok = false; number = k; next = x; len = y; whole = z })
+    refuse : {k x y : ℕ} {z : Bool} {e m₂ : List ℕ} → length e ≡ length b → length m₂ ≡ length l → ((s : Records) → Holds s l n limit → write full (room - p) (Emitted (expansion v s t)) ≡ refused k) →
+        Expands limit full room v t b p e l n m₂ (record { ok = false; number = k; next = x; len = y; whole = z })
     refuse u u₂ f = record {
       size = u;
       left-size = u₂;
@@ -135,12 +135,12 @@ module _ (limit full : ℕ) (v : View) (t b : List ℕ) (p : ℕ) where
       };
     }
 
-    pub expanding-full : {x y : ℕ} {z : Bool} → length b < r → Expands limit full v t b p d l n m (record { ok = false; number = full; next = x; len = y; whole = z })
-    expanding-full z = refuse (put-length P ∙ E .size) (E .left-size) (λ s h. going-no (put (part t i j) ok) (Emitted (Left (half h .s) j)) (before-hash h) (emits-put {full = full} (E .place) P) (lt-leb r (length b) z))
+    pub expanding-full : {x y : ℕ} {z : Bool} → room < r → Expands limit full room v t b p d l n m (record { ok = false; number = full; next = x; len = y; whole = z })
+    expanding-full z = refuse (put-length P ∙ E .size) (E .left-size) (λ s h. going-no (put (part t i j) ok) (Emitted (Left (half h .s) j)) (before-hash h) (emits-put {full = full} (E .place) P) (lt-leb r room z))
 
-    module _ (z : r ≤ length b) where
-      at-hash : {s₀ : Records} (h : Holds s₀ l n limit) → Going full (length b) (Emitted (expansion v s₀ t)) b p d r (Emitted (Left (half h .s) j))
-      at-hash h = going-on (put (part t i j) ok) (Emitted (Left (half h .s) j)) (before-hash h) (emits-put {full = full} (E .place) P) (le-leb r (length b) z)
+    module _ (z : r ≤ room) where
+      at-hash : {s₀ : Records} (h : Holds s₀ l n limit) → Going full room (Emitted (expansion v s₀ t)) b p d r (Emitted (Left (half h .s) j))
+      at-hash h = going-on (put (part t i j) ok) (Emitted (Left (half h .s) j)) (before-hash h) (emits-put {full = full} (E .place) P) (le-leb r room z)
 
       whole-hash : {s₀ : Records} (h : Holds s₀ l n limit) → allWhole (expansion v s₀ t) ≡ (w && allWhole (Left (half h .s) j))
       whole-hash h = half h .wholes ∙ ap (λ x. w && x) (piece h .wholes ∙ behind h _ allWhole)
@@ -148,18 +148,18 @@ module _ (limit full : ℕ) (v : View) (t b : List ℕ) (p : ℕ) where
       final-hash : {s₀ : Records} (h : Holds s₀ l n limit) → final (expansion v s₀ t) ≡ final (Left (half h .s) j)
       final-hash h = half h .finals ∙ piece h .finals ∙ behind h _ final
 
-      pub expanding-end : {x : ℕ} → length t ≤ j → Expands limit full v t b p d l n m (record { ok = true; number = x; next = r; len = len; whole = w })
+      pub expanding-end : {x : ℕ} → length t ≤ j → Expands limit full room v t b p d l n m (record { ok = true; number = x; next = r; len = len; whole = w })
       unfolding run guarded allWhole final
       expanding-end {x} e = record { size = put-length P ∙ E .size; left-size = E .left-size; does = λ s h. does h }
         where
           none : drop j t ≡ []
           none = drop-of-length-le t {i = j} e
 
-          does : {s₀ : Records} → Holds s₀ l n limit → Runs limit full v s₀ t b p d m (record { ok = true; number = x; next = r; len = len; whole = w })
+          does : {s₀ : Records} → Holds s₀ l n limit → Runs limit full room v s₀ t b p d m (record { ok = true; number = x; next = r; len = len; whole = w })
           does h = record {
             emits = record {
               size = put-length P ∙ E .size;
-              goes = λ y. going-end (going-same (ap (λ y. write full (length b - r) (Emitted (run (expansionStep v) (half h .s) 0 y))) none) (at-hash h));
+              goes = λ y. going-end (going-same (ap (λ y. write full (room - r) (Emitted (run (expansionStep v) (half h .s) 0 y))) none) (at-hash h));
               stops = λ y. absurd (true≢false y);
             };
             wholes = λ y. whole-hash h ∙ ap (λ y. w && allWhole (run (expansionStep v) (half h .s) 0 y)) none ∙ and-true w;
@@ -172,24 +172,23 @@ module _ (limit full : ℕ) (v : View) (t b : List ℕ) (p : ℕ) where
         unfolding prefix
         hash = record { says = rw (drop-cons t j 0 y, eq-eqb 35 (getD t j 0) (sym (is-byte (getD t j 0) 35 (spans-stop X y)))) refl; there = λ e. omega arith }
 
-        module _ {c₂ m₂ : List ℕ} {k : Stepped} (S : Steps limit full v t j d r c₂ m len m₂ k) where
+        module _ {c₂ m₂ : List ℕ} {k : Stepped} (S : Steps limit full room v t j d r c₂ m len m₂ k) where
           module _ {s₀ : Records} (h : Holds s₀ l n limit) where
             abbrev did : Did Records
             did = expansionStep v (half h .s) (drop j t) .0
 
-            took : Took limit full (expansionStep v (half h .s) (drop j t)) t d r c₂ m₂ k
+            took : Took limit full room (expansionStep v (half h .s) (drop j t)) t d r c₂ m₂ k
             took = S .does (half h .s) (half h .holds)
 
-            -- In a buffer as long as the first one.
-            emits : Emits full (length b) (guard sheetLength limit did) d r c₂ (k .ok) (k .number) (k .next)
-            emits = subst (λ x. Emits full x (guard sheetLength limit did) d r c₂ (k .ok) (k .number) (k .next)) (put-length P ∙ E .size) (took .emits)
+            emits : Emits full room (guard sheetLength limit did) d r c₂ (k .ok) (k .number) (k .next)
+            emits = took .emits
 
-          pub expanding-refused : {x o : ℕ} {a : Bool} → k .ok ≡ false → Expands limit full v t b p c₂ l n m₂ (record { ok = false; number = k .number; next = x; len = o; whole = a })
+          pub expanding-refused : {x o : ℕ} {a : Bool} → k .ok ≡ false → Expands limit full room v t b p c₂ l n m₂ (record { ok = false; number = k .number; next = x; len = o; whole = a })
           unfolding guarded
           expanding-refused e = refuse (S .size ∙ put-length P ∙ E .size) (S .left-size ∙ E .left-size)
               (λ s h.
               let u = run-first (expansionStep v) (half h .s) t j y in
-              going-no (guard sheetLength limit (did h)) (Emitted (u .0)) (going-same (ap (λ x. write full (length b - r) (Emitted x)) (u .1)) (at-hash h)) (emits h) e)
+              going-no (guard sheetLength limit (did h)) (Emitted (u .0)) (going-same (ap (λ x. write full (room - r) (Emitted x)) (u .1)) (at-hash h)) (emits h) e)
 
           pub expanding-on : k .ok ≡ true → Expanding l n c₂ m₂ (k .at) (k .next) (k .len) (w && k .whole)
           unfolding guarded allWhole final
@@ -219,8 +218,8 @@ module _ (limit full : ℕ) (v : View) (t b : List ℕ) (p : ℕ) where
                   let o = run-at (expansionStep v) t (half h .s) j (k .at) (S .on) (S .inside) (took h .rest e) in
                   record {
                     s = g .state;
-                    going = going-on (guard sheetLength limit g) (Emitted (Left (g .state) (k .at))) (going-same (ap (λ x. write full (length b - r) (Emitted x)) o) (at-hash h)) (emits h) e;
-                    wholes = whole-hash h ∙ ap (λ x. w && allWhole x) o ∙ more (g .whole) (unrefused (g .emit)) (allWhole (Left (g .state) (k .at))) (took h .wholes e) (written-unrefused full (g .emit) (length b - r) (ap (write full (length b - r)) (sym (within-limit g refl (took h .holds e))) ∙ emits h .goes e .says));
+                    going = going-on (guard sheetLength limit g) (Emitted (Left (g .state) (k .at))) (going-same (ap (λ x. write full (room - r) (Emitted x)) o) (at-hash h)) (emits h) e;
+                    wholes = whole-hash h ∙ ap (λ x. w && allWhole x) o ∙ more (g .whole) (unrefused (g .emit)) (allWhole (Left (g .state) (k .at))) (took h .wholes e) (written-unrefused full (g .emit) (room - r) (ap (write full (room - r)) (sym (within-limit g refl (took h .holds e))) ∙ emits h .goes e .says));
                     finals = final-hash h ∙ ap final o;
                     holds = took h .holds e;
                   }

@@ -1,8 +1,6 @@
 // The run of the expansion (document 01, section 5): plain text, and the step at each `#`.
 ghost use mathlib.Core.Path.{_≡_};
 ghost use mathlib.Core.Bool.{true};
-ghost use Prim.Native.Nat.{_≤_};
-ghost use lib.ListN.{length};
 ghost use Rattle.rules.specs.Reader.{all};
 ghost use Rattle.rules.specs.Bytes.{ascii};
 ghost use Rattle.rules.specs.Bundle.{bundleOf};
@@ -10,6 +8,7 @@ ghost use Rattle.rules.specs.Files.{view};
 ghost use Rattle.rules.specs.Laws.Bool.{isSome};
 ghost use Rattle.bundle.specs.Find.{entriesOf};
 ghost use Rattle.binding.specs.Use.{Keeps};
+ghost use Rattle.expansion_steps.specs.Call.{Space};
 ghost use Rattle.expansion.specs.Run.{Expands};
 
 // What expanding a text came to: has all been written and the sheet stayed within its limit; if not, the refusal's number; where the
@@ -22,21 +21,22 @@ pub struct Expanded {
     pub whole: bool,
 }
 
-// Expands a text behind what the writer at p has written, with the sheet in the first n bytes of `left`.
+// Expands a text behind what the writer at p has written, with the sheet in the first n bytes of `left`. What is answered, and the sheet, are the same for
+// every buffer; one as long as the room has the text.
 pub fn expand(
     b: &[u8],
     text: &[u8],
     out: &mut [u8],
+    room: usize,
     p: usize,
     left: &mut [u8],
     n: usize,
     limit: usize,
     full: u8,
 ) -> Expanded
-    requires { ⌜ (isSome (bundleOf (now b)) ≡ true) × (all ascii (now text) ≡ true) × (p ≤ length (now out)) × Keeps (now left) n limit ⌝ }
-    ensures { λ r. ⌜ Expands limit full (view (entriesOf (now (b .entry)))) (now (text .entry)) (now (out .entry)) p (now (out .exit)) (now (left .entry)) n (now (left .exit)) r ⌝ }
+    requires { ⌜ (isSome (bundleOf (now b)) ≡ true) × (all ascii (now text) ≡ true) × Space room (now out) p × Keeps (now left) n limit ⌝ }
+    ensures { λ r. ⌜ Expands limit full room (view (entriesOf (now (b .entry)))) (now (text .entry)) (now (out .entry)) p (now (out .exit)) (now (left .entry)) n (now (left .exit)) r ⌝ }
 {
-    let room = out.len();
     let mut done: usize = 0;
     let mut q = p;
     let mut len = n;
@@ -62,7 +62,7 @@ pub fn expand(
                 whole: whole,
             };
         }
-        let s = expansion_steps::step::step(b, text, at, out, q, left, len, limit, full);
+        let s = expansion_steps::step::step(b, text, at, out, room, q, left, len, limit, full);
         if !s.ok {
             return Expanded {
                 ok: false,

@@ -13,7 +13,7 @@ use Rattle.rules.specs.Sheet.{Records, resolveString}
 use Rattle.rules.specs.Expansion.{writes, referenceStep}
 use Rattle.scan.specs.Sets.{part, Spans, Sees}
 use Rattle.sheet.specs.Find.{IsSheet}
-use Rattle.buffers.specs.Put.{Put, Writer}
+use Rattle.buffers.specs.Put.{Put}
 use Rattle.buffers.specs.Laws.{put-then, put-length}
 use Rattle.buffers.specs.Emits.{Emits, emits-put}
 use Rattle.expansion_steps.specs.declared.WriteStep.{WriteStep}
@@ -48,7 +48,7 @@ module _ (s : Records) {t : List ℕ} {at : ℕ} {l : Bool} (x : Sees letter t a
     step-reference g = rw (x .says, h, y .rest, y .took, k .says, g) refl
 
 -- What is put.
-module _ {t : List ℕ} {at : ℕ} {l : Bool} (x : Sees letter t at l) {room p : ℕ} (w : Writer room p) (n : p ≤ room) {z : List ℕ} (full : ℕ) {b c : List ℕ} {q : ℕ} where
+module _ {t : List ℕ} {at : ℕ} {l : Bool} (x : Sees letter t at l) {room p : ℕ} (n : p ≤ room) {z : List ℕ} (full : ℕ) {b c : List ℕ} {q : ℕ} where
   pub refers-other : l ≡ false → at ≤ length t → Put room b p (bytes "#") c q → Refers t at z full room b p c (record { ok = leb q room; number = full; whole = true; at = at; next = q })
   refers-other e i u = record {
     size = put-length u;
@@ -61,7 +61,7 @@ module _ {t : List ℕ} {at : ℕ} {l : Bool} (x : Sees letter t at l) {room p :
   module _ (h : l ≡ true) {e : ℕ} (y : Spans runByte t at e) {f : Bool} (k : Sees (the "(") t e f) where
     pub refers-called : f ≡ true → length b ≤ room → {d : List ℕ} {m : ℕ} → Put room b p (bytes "#") d m → Put room d m (part t at e) c q → Refers t at z full room b p c (record { ok = leb q room; number = full; whole = true; at = e; next = q })
     refers-called g o u v =
-        let both = put-then u o (w .place) v in
+        let both = put-then u o v in
         record {
           size = put-length both;
           on = y .on;

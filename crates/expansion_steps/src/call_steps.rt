@@ -16,7 +16,7 @@ ghost use Rattle.rules.specs.Laws.Bool.{isSome};
 ghost use Rattle.scan.specs.Sets.{part, Starts};
 ghost use Rattle.bundle.specs.Find.{entriesOf};
 ghost use Rattle.sheet.specs.Find.{IsSheet};
-ghost use Rattle.expansion_steps.specs.Call.{Shows, Ends, StepsBy};
+ghost use Rattle.expansion_steps.specs.Call.{Space, Shows, Ends, StepsBy};
 
 // Outputs the mark and the blanks behind it, from `at` to `end`, and goes on there.
 fn show(
@@ -25,13 +25,13 @@ fn show(
     end: usize,
     whole: bool,
     out: &mut [u8],
+    room: usize,
     p: usize,
     full: u8,
 ) -> WriteStep
-    requires { ⌜ (at ≤ end) × (end ≤ length (now text)) × (p ≤ length (now out)) ⌝ }
-    ensures { λ r. ⌜ Shows full (part (now (text .entry)) at end) end whole (now (out .entry)) p (now (out .exit)) r ⌝ }
+    requires { ⌜ (at ≤ end) × (end ≤ length (now text)) × Space room (now out) p ⌝ }
+    ensures { λ r. ⌜ Shows full room (part (now (text .entry)) at end) end whole (now (out .entry)) p (now (out .exit)) r ⌝ }
 {
-    let room = out.len();
     let q = buffers::put(out, room, p, &text[at..end]);
     WriteStep {
         ok: q <= room,
@@ -49,15 +49,16 @@ fn end_call(
     at: usize,
     end: usize,
     out: &mut [u8],
+    room: usize,
     p: usize,
     full: u8,
 ) -> WriteStep
-    requires { ⌜ (at ≤ end) × (end ≤ length (now text)) × (p ≤ length (now out)) ⌝ }
-    ensures { λ r. ⌜ Ends full c (now (text .entry)) at end (now (out .entry)) p (now (out .exit)) r ⌝ }
+    requires { ⌜ (at ≤ end) × (end ≤ length (now text)) × Space room (now out) p ⌝ }
+    ensures { λ r. ⌜ Ends full room c (now (text .entry)) at end (now (out .entry)) p (now (out .exit)) r ⌝ }
 {
     let outcome = c.outcome;
     match outcome {
-        Outcome::HandedBack => show(text, at, end, c.at < text.len(), out, p, full),
+        Outcome::HandedBack => show(text, at, end, c.at < text.len(), out, room, p, full),
         Outcome::Refused { number } => WriteStep {
             ok: false,
             number: number,
@@ -66,7 +67,7 @@ fn end_call(
             next: p,
         },
         Outcome::Output { whole, next } => WriteStep {
-            ok: next <= out.len(),
+            ok: next <= room,
             number: full,
             whole: whole,
             at: c.at,
@@ -82,18 +83,19 @@ pub fn raw_step(
     at: usize,
     sheet: &[u8],
     out: &mut [u8],
+    room: usize,
     p: usize,
     full: u8,
 ) -> WriteStep
-    requires { ⌜ (isSome (bundleOf (now b)) ≡ true) × Starts (bytes "#raw") (now text) at true × (p ≤ length (now out)) × IsSheet (now sheet) ⌝ }
-    ensures { λ r. ⌜ StepsBy full (λ s. callStep (bytes "#raw") (raw (view (entriesOf (now (b .entry)))) (resolveString s)) s) (now (text .entry)) (at + 4) (now (sheet .entry)) (now (out .entry)) p (now (out .exit)) r ⌝ }
+    requires { ⌜ (isSome (bundleOf (now b)) ≡ true) × Starts (bytes "#raw") (now text) at true × Space room (now out) p × IsSheet (now sheet) ⌝ }
+    ensures { λ r. ⌜ StepsBy full room (λ s. callStep (bytes "#raw") (raw (view (entriesOf (now (b .entry)))) (resolveString s)) s) (now (text .entry)) (at + 4) (now (sheet .entry)) (now (out .entry)) p (now (out .exit)) r ⌝ }
 {
     let i = scan::span(text, at + 4, Set::LineBlank);
     if !scan::at(text, i, b'(') {
-        return show(text, at, i, true, out, p, full);
+        return show(text, at, i, true, out, room, p, full);
     }
-    let c = raw_call::raw::raw(b, text, i + 1, sheet, out, p);
-    end_call(c, text, at, i, out, p, full)
+    let c = raw_call::raw(b, text, i + 1, sheet, out, room, p);
+    end_call(c, text, at, i, out, room, p, full)
 }
 
 // `#link`, whose mark stands at a place.
@@ -102,16 +104,17 @@ pub fn link_step(
     at: usize,
     sheet: &[u8],
     out: &mut [u8],
+    room: usize,
     p: usize,
     full: u8,
 ) -> WriteStep
-    requires { ⌜ Starts (bytes "#link") (now text) at true × (p ≤ length (now out)) × IsSheet (now sheet) ⌝ }
-    ensures { λ r. ⌜ StepsBy full (λ s. callStep (bytes "#link") (link (resolveString s)) s) (now (text .entry)) (at + 5) (now (sheet .entry)) (now (out .entry)) p (now (out .exit)) r ⌝ }
+    requires { ⌜ Starts (bytes "#link") (now text) at true × Space room (now out) p × IsSheet (now sheet) ⌝ }
+    ensures { λ r. ⌜ StepsBy full room (λ s. callStep (bytes "#link") (link (resolveString s)) s) (now (text .entry)) (at + 5) (now (sheet .entry)) (now (out .entry)) p (now (out .exit)) r ⌝ }
 {
     let i = scan::span(text, at + 5, Set::LineBlank);
     if !scan::at(text, i, b'(') {
-        return show(text, at, i, true, out, p, full);
+        return show(text, at, i, true, out, room, p, full);
     }
-    let c = link_call::link(text, i + 1, sheet, out, p);
-    end_call(c, text, at, i, out, p, full)
+    let c = link_call::link(text, i + 1, sheet, out, room, p);
+    end_call(c, text, at, i, out, room, p, full)
 }

@@ -3,8 +3,8 @@ use crate::WriteStep;
 use scan::Set;
 ghost use Prim.Native.Nat.{_≤_};
 ghost use lib.ListN.{length};
-ghost use Rattle.buffers.specs.Put.{Writer};
 ghost use Rattle.sheet.specs.Find.{IsSheet};
+ghost use Rattle.expansion_steps.specs.Call.{Space};
 ghost use Rattle.expansion_steps.specs.Reference.{Refers};
 
 // `#`: copied before a byte that is no letter, and before a run and `(`, with the run; else puts the text of the run's reference.
@@ -17,7 +17,7 @@ pub fn reference_step(
     p: usize,
     full: u8,
 ) -> WriteStep
-    requires { ⌜ (at ≤ length (now text)) × Writer room p × (p ≤ room) × (length (now out) ≤ room) × IsSheet (now sheet) ⌝ }
+    requires { ⌜ (at ≤ length (now text)) × Space room (now out) p × IsSheet (now sheet) ⌝ }
     ensures { λ r. ⌜ Refers (now (text .entry)) at (now (sheet .entry)) full room (now (out .entry)) p (now (out .exit)) r ⌝ }
 {
     if !scan::sees(text, at, Set::Letter) {

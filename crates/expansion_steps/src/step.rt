@@ -7,8 +7,6 @@ use let_steps::import_step;
 use let_steps::let_step;
 ghost use mathlib.Core.Path.{_≡_};
 ghost use mathlib.Core.Bool.{true};
-ghost use Prim.Native.Nat.{_≤_};
-ghost use lib.ListN.{length};
 ghost use Rattle.rules.specs.Reader.{all, bytes};
 ghost use Rattle.rules.specs.Bytes.{ascii};
 ghost use Rattle.rules.specs.Bundle.{bundleOf};
@@ -18,6 +16,7 @@ ghost use Rattle.scan.specs.Sets.{Starts};
 ghost use Rattle.bundle.specs.Find.{entriesOf};
 ghost use Rattle.sheet.specs.Find.{IsSheet};
 ghost use Rattle.binding.specs.Use.{Keeps};
+ghost use Rattle.expansion_steps.specs.Call.{Space};
 ghost use Rattle.expansion_steps.specs.Step.{Unbound, WritesAt, Steps};
 
 // The step at a `#` that begins neither `#import` nor `#let`: it keeps the sheet.
@@ -27,19 +26,19 @@ fn writing_step(
     at: usize,
     sheet: &[u8],
     out: &mut [u8],
+    room: usize,
     p: usize,
     full: u8,
 ) -> WriteStep
-    requires { ⌜ (isSome (bundleOf (now b)) ≡ true) × Unbound (now text) at × (p ≤ length (now out)) × IsSheet (now sheet) ⌝ }
-    ensures { λ r. ⌜ WritesAt full (view (entriesOf (now (b .entry)))) (now (text .entry)) at (now (sheet .entry)) (now (out .entry)) p (now (out .exit)) r ⌝ }
+    requires { ⌜ (isSome (bundleOf (now b)) ≡ true) × Unbound (now text) at × Space room (now out) p × IsSheet (now sheet) ⌝ }
+    ensures { λ r. ⌜ WritesAt full room (view (entriesOf (now (b .entry)))) (now (text .entry)) at (now (sheet .entry)) (now (out .entry)) p (now (out .exit)) r ⌝ }
 {
     if scan::starts_with(text, at, b"#raw") {
-        return raw_step(b, text, at, sheet, out, p, full);
+        return raw_step(b, text, at, sheet, out, room, p, full);
     }
     if scan::starts_with(text, at, b"#link") {
-        return link_step(text, at, sheet, out, p, full);
+        return link_step(text, at, sheet, out, room, p, full);
     }
-    let room = out.len();
     reference_step(text, at + 1, sheet, out, room, p, full)
 }
 
@@ -60,14 +59,15 @@ pub fn step(
     text: &[u8],
     at: usize,
     out: &mut [u8],
+    room: usize,
     p: usize,
     left: &mut [u8],
     n: usize,
     limit: usize,
     full: u8,
 ) -> Stepped
-    requires { ⌜ (isSome (bundleOf (now b)) ≡ true) × (all ascii (now text) ≡ true) × Starts (bytes "#") (now text) at true × (p ≤ length (now out)) × Keeps (now left) n limit ⌝ }
-    ensures { λ r. ⌜ Steps limit full (view (entriesOf (now (b .entry)))) (now (text .entry)) at (now (out .entry)) p (now (out .exit)) (now (left .entry)) n (now (left .exit)) r ⌝ }
+    requires { ⌜ (isSome (bundleOf (now b)) ≡ true) × (all ascii (now text) ≡ true) × Starts (bytes "#") (now text) at true × Space room (now out) p × Keeps (now left) n limit ⌝ }
+    ensures { λ r. ⌜ Steps limit full room (view (entriesOf (now (b .entry)))) (now (text .entry)) at (now (out .entry)) p (now (out .exit)) (now (left .entry)) n (now (left .exit)) r ⌝ }
 {
     if scan::starts_with(text, at, b"#import") {
         let next = import_step(text, at + 7);
@@ -91,7 +91,7 @@ pub fn step(
             len: r.len,
         };
     }
-    let r = writing_step(b, text, at, &left[..n], out, p, full);
+    let r = writing_step(b, text, at, &left[..n], out, room, p, full);
     Stepped {
         ok: r.ok,
         number: r.number,

@@ -1,26 +1,31 @@
 -- The link call.
 use mathlib.Core.Path.{_≡_, refl, sym, ap, _∙_}
-use mathlib.Core.List.{List, [], _∷_, _++_, append-assoc}
-use mathlib.Core.Bool.{Bool, true, false}
+use mathlib.Core.List.{List, [], _∷_}
+use mathlib.Core.Bool.{Bool, true, false, not, _&&_, _||_, true≢false}
 use Prim.Native.Nat.{ℕ, _+_, _-_, _≤_, _<_}
 use native.Mathlib.Omega.{arith}
-use lib.ListN.{length, take, drop, length-append, length-drop}
-use lib.Seq.{sets, sets-eq, length-take-le, take-at, drop-at, drop-drop}
+use native.Mathlib.Nat.{zero-add}
+use lib.Dec.{leb, eqb}
+use lib.ListN.{length, take, drop}
+use lib.Seq.{drop-drop}
+use borrow.Author.Tests.{leb-true, ne-eqb, eqb-false, not-true}
 use Rattle.rules.specs.Reader.{Reader, bytes, empty, same, ret, ifR, _>>=_, _>>_}
 use Rattle.rules.specs.Bytes.{blank, lineBlank}
 use Rattle.rules.specs.Strings.{expression}
 use Rattle.rules.specs.Expansion.{Call, outputs, linkText, linkContentBlock, linkEnd, link}
+use Rattle.rules.specs.Laws.Bool.{and-l, and-r}
+use Rattle.rules.specs.Laws.Sheet.{same-refl, same-eq}
 use Rattle.scan.specs.Sets.{byteIs, notByte, part, Spans, Skips, Sees}
-use Rattle.scan.specs.Laws.{sees-the, skip-at}
-use Rattle.scan.specs.Laws.{drop-take, tail-part}
+use Rattle.scan.specs.Laws.{sees-the, skip-at, not-empty, tail-part}
 use Rattle.scan.specs.Stretches.{spans-but}
-use Rattle.strings.specs.Read.{Wrote}
-use Rattle.buffers.specs.Put.{Put}
-use Rattle.buffers.specs.Laws.{after-fits, sets-before, put-length, put-fits, put-ended, put-not, put-then}
-use Rattle.buffers.specs.Emits.{Fills, fill-then, put-fills}
+use Rattle.buffers.specs.Put.{after, Put}
+use Rattle.buffers.specs.Laws.{after-fits, put-length, put-then}
+use Rattle.buffers.specs.Emits.{put-fills}
 use Rattle.calls.specs.declared.Outcome.the-variants.{HandedBack, Output}
-use Rattle.link_call.specs.declared.Ending.{Ending}
+use Rattle.calls.specs.declared.measure.Measured.{Measured}
 use Rattle.calls.specs.Called.{Says, Calls}
+use Rattle.calls.specs.Measure.{MeasuresRead}
+use Rattle.link_call.specs.declared.Ending.{Ending}
 
 -- From i on e reads the end of r, for every address.
 pub record Closes (e : List ℕ → Reader Call) (t : List ℕ) (i : ℕ) (r : Ending) : Type 0 where
@@ -29,14 +34,6 @@ pub record Closes (e : List ℕ → Reader Call) (t : List ℕ) (i : ℕ) (r : E
   pub order : r .from ≤ r .to
   pub lies : r .to ≤ length t
   pub says : (u : List ℕ) → e u (drop i t) ≡ (outputs (r .whole) (linkText u (part t (r .from) (r .to))), drop (r .at) t)
-
--- The link of an address and another text.
-abbrev pub withContentBlock : List ℕ → List ℕ → List ℕ
-withContentBlock u w = bytes "#link(\"" ++ (u ++ (bytes "\")[" ++ (w ++ bytes "]")))
-
--- For each address u that was put at p of b and has made of it c: the call's text with w in its content block fills b from p on, and has made of c d.
-abbrev pub Linked : List ℕ → ℕ → List ℕ → ℕ → List ℕ → ℕ → Type 0
-Linked w p c q d r = (b u : List ℕ) → p ≤ length b → Put (length b) b p u c q → Fills (length b) b p (linkText u w) d r
 
 -- Without a text it is the address.
 no-text : (u t : List ℕ) (i : ℕ) → linkText u (part t i i) ≡ u
@@ -91,123 +88,71 @@ module _ {t : List ℕ} {i k : ℕ} (L : Spans blank t i k) {c : Bool} (s : Sees
         says = λ u. rw (L .rest, sees-the ")" s e .says, M .rest, sees-the ")" W refl .says, N .rest, no-text u t j) refl;
       }
 
--- THE LINK over its address. The address is moved up, and what stands before it is stored.
-put-moved : {c d e : List ℕ} {p q : ℕ} → p ≤ q → q + 7 ≤ length c → d ≡ sets c (p + 7) (drop p (take q c)) → e ≡ sets d p (bytes "#link(\"") → Put (length c) c p (bytes "#link(\"" ++ part c p q) e (q + 7)
-put-moved {c} {d} {e} {p} {q} h k m s =
-    let l : length (part c p q) ≡ q - p = length-take-le (q - p) (drop p c) (omega (arith, length-drop p c)) in
-    record {
-      stored = s ∙ ap (λ z. sets z p (bytes "#link(\"")) (m ∙ ap (sets c (p + 7)) (drop-take p q c)) ∙ sets-before c p (bytes "#link(\"") (part c p q);
-      place = let z : p + length (bytes "#link(\"" ++ part c p q) ≡ q + 7 = omega arith in sym (after-fits (length c) p (bytes "#link(\"" ++ part c p q) (omega arith) ∙ z);
-    }
-
-pub put-with-block : {c d e : List ℕ} {p q : ℕ} → p ≤ q → q + 7 ≤ length c → d ≡ sets c (p + 7) (drop p (take q c)) → e ≡ sets d p (bytes "#link(\"") →
-    {f g i w : List ℕ} {x y r : ℕ} → Put (length c) e (q + 7) (bytes "\")[") f x → Put (length c) f x w g y → Put (length c) g y (bytes "]") i r → Put (length c) c p (withContentBlock (part c p q) w) i r
-put-with-block {c} {d} {e} {p} {q} h k m s {f} A B C =
-    let M = put-moved h k m s in
-    let a = put-ended A (omega arith) in
-    put-then M (omega arith) (omega arith) (put-then A (omega (arith, put-length M)) (omega arith) (put-then B (omega (arith, put-length M, put-length A)) (a .0) C))
-
--- The call's text, by whether the content block's text is the address.
-text-empty : (u w : List ℕ) → length w ≡ 0 → linkText u w ≡ u
-unfolding linkText empty
-text-empty u [] h = refl
-text-empty u (x ∷ xs) h = absurd (omega arith)
-
-text-same : (u w : List ℕ) → same w u ≡ true → linkText u w ≡ u
-unfolding linkText empty
-text-same u [] h = refl
-text-same u (x ∷ xs) h = rw (h, linkText) refl
-
-text-other : (u w : List ℕ) → (length w ≡ 0 → ⊥) → same w u ≡ false → linkText u w ≡ withContentBlock u w
-unfolding linkText empty
-text-other u [] n h = absurd (n refl)
-text-other u (x ∷ xs) n h = rw (h, linkText) refl
-
--- It is never shorter than the address.
-text-long : (u w : List ℕ) → length u ≤ length (linkText u w)
-text-long u [] = omega (arith, ap length (text-empty u [] refl))
-text-long u (x ∷ xs) = at (same (x ∷ xs) u) refl
+-- IS IT THE ADDRESS ALONE? w: the content block's text, u: the address.
+same-sym : (a b : List ℕ) → same a b ≡ same b a
+same-sym a b = at (same a b) (same b a) refl refl
   where
-    at : (c : Bool) → same (x ∷ xs) u ≡ c → length u ≤ length (linkText u (x ∷ xs))
-    at true e = omega (arith, ap length (text-same u (x ∷ xs) e))
-    at false e = omega (arith, ap length (text-other u (x ∷ xs) (λ z. absurd (omega arith)) e), length-append u (bytes "\")[" ++ ((x ∷ xs) ++ bytes "]")))
+    at : (c d : Bool) → same a b ≡ c → same b a ≡ d → same a b ≡ same b a
+    at true true p q = p ∙ sym q
+    at false false p q = p ∙ sym q
+    at true false p q = absurd (true≢false (sym (ap (λ z. same z a) (sym (same-eq a b p)) ∙ same-refl a) ∙ q))
+    at false true p q = absurd (true≢false (sym (ap (same a) (same-eq b a q) ∙ same-refl a) ∙ p))
 
--- What an address that fits leaves in the buffer.
-module _ {b : List ℕ} {p : ℕ} {u c : List ℕ} {q : ℕ} (h : p ≤ length b) (P : Put (length b) b p u c q) (k : q ≤ length c) where
-  stands : c ≡ take p b ++ (u ++ drop (p + length u) b)
-  stands = P .stored ∙ sets-eq u b p (omega (arith, put-length P, put-fits P (omega arith) (omega (arith, put-length P)))) ∙ append-assoc (take p b) u (drop (p + length u) b)
+module _ (u w : List ℕ) where
+  pub alone-empty : length w ≡ 0 → true ≡ (empty w || same w u)
+  unfolding empty
+  alone-empty h = at w h
+    where
+      at : (x : List ℕ) → length x ≡ 0 → true ≡ (empty x || same x u)
+      at [] e = refl
+      at (y ∷ x) e = absurd (omega arith)
 
-  kept : take p c ≡ take p b
-  kept = ap (take p) stands ∙ take-at (take p b) _ p (length-take-le p b h)
+  module _ (h : length w ≡ 0 → ⊥) where
+    pub alone-same : {c : Bool} → c ≡ same u w → c ≡ (empty w || same w u)
+    alone-same e = e ∙ same-sym u w ∙ ap (λ z. z || same w u) (sym (not-empty w h))
 
-  address : part c p q ≡ u
-  address =
-      let l : length u ≡ q - p = omega (arith, put-length P, put-fits P (omega arith) (omega (arith, put-length P))) in
-      ap (λ z. take (q - p) (drop p z)) stands ∙ ap (take (q - p)) (drop-at (take p b) _ p (length-take-le p b h)) ∙ take-at u _ (q - p) l
+    pub alone-other : (room : ℕ) {n : ℕ} → n ≡ after room 0 (length u) → (leb n room && not (eqb n (length w))) ≡ true → false ≡ (empty w || same w u)
+    alone-other room {n} e k = sym (ap (λ z. z || same w u) (not-empty w h) ∙ differ (ne-eqb (length w) (length u) (λ z. eqb-false n (length w) (not-true _ (and-r (leb n room) _ k)) (exact ∙ sym z))))
+      where
+        exact : n ≡ length u
+        exact = e ∙ after-fits room 0 (length u) (omega (arith, e, leb-true n room (and-l (leb n room) _ k))) ∙ zero-add (length u)
 
-module _ (w : List ℕ) (p : ℕ) (c : List ℕ) (q : ℕ) where
-  pub linked-empty : length w ≡ 0 → Linked w p c q c q
-  linked-empty e b u h P = rw (text-empty u w e) (put-fills (omega arith) P)
+        differ : eqb (length w) (length u) ≡ false → same w u ≡ false
+        differ d = unfold same in rw d refl
 
-  pub linked-over : length c < q → Linked w p c q c q
-  linked-over k b u h P = record {
-    size = put-length P;
-    bound = put-ended P (omega arith) .0;
-    fills = λ z. absurd (omega (arith, put-length P));
-    over = λ z. omega (arith, put-not P (omega arith) z, text-long u w);
-  }
+-- THE TEXT of a call.
+module _ (u w : List ℕ) {a : Bool} (A : a ≡ (empty w || same w u)) {room : ℕ} {o : List ℕ} {p : ℕ} where
+  pub link-alone : a ≡ true → {c : List ℕ} {q : ℕ} → Put room o p u c q → Put room o p (linkText u w) c q
+  unfolding linkText
+  link-alone e s = rw (sym A ∙ e, linkText) s
 
-  module _ (k : q ≤ length c) {s : Bool} (S : s ≡ same w (part c p q)) where
-    pub linked-same : s ≡ true → Linked w p c q c q
-    linked-same e b u h P =
-        let z : same w u ≡ true = ap (same w) (sym (address h P k)) ∙ sym S ∙ e in
-        rw (text-same u w z) (put-fills (omega arith) P)
-
-    module _ (n : length w ≡ 0 → ⊥) (e : s ≡ false) where
-      other : {b u : List ℕ} → p ≤ length b → Put (length b) b p u c q → linkText u w ≡ withContentBlock u w
-      other {b} {u} h P = text-other u w n (ap (same w) (sym (address h P k)) ∙ sym S ∙ e)
-
-      pub linked-short : length c - q < 7 → Linked w p c q c (length c + 2)
-      linked-short m b u h P =
-          let l = put-length P in
-          record {
-            size = l;
-            bound = omega arith;
-            fills = λ z. absurd (omega arith);
-            over = λ z. omega (arith, ap length (other h P), length-append u (bytes "\")[" ++ (w ++ bytes "]")), put-fits P (omega arith) (omega arith));
-          }
-
-      pub linked-with-block : {d : List ℕ} {r : ℕ} → Put (length c) c p (withContentBlock (part c p q) w) d r → Linked w p c q d r
-      linked-with-block {d} {r} D b u h P =
-          let l = put-length P in
-          let E : Put (length b) c p (linkText u w) d r = rw (l, address h P k, sym (other h P)) at D in
-          let F = put-fills (omega arith) E in
-          record {
-            size = F .size ∙ l;
-            bound = F .bound;
-            fills = λ z. fill-then {v = []} (record { size = l; place = omega arith; holds = kept h P k }) (F .fills z);
-            over = F .over;
-          }
+  pub link-block : a ≡ false → length o ≤ room → {o₁ o₂ o₃ o₄ o₅ : List ℕ} {p₁ p₂ p₃ p₄ p₅ : ℕ} → Put room o p (bytes "#link(\"") o₁ p₁ → Put room o₁ p₁ u o₂ p₂ → Put room o₂ p₂ (bytes "\")[") o₃ p₃ → Put room o₃ p₃ w o₄ p₄ → Put room o₄ p₄ (bytes "]") o₅ p₅ → Put room o p (linkText u w) o₅ p₅
+  unfolding linkText
+  link-block e l s₁ s₂ s₃ s₄ s₅ =
+      let l₁ = put-length s₁ in
+      let l₂ = put-length s₂ in
+      let l₃ = put-length s₃ in
+      rw (sym A ∙ e, linkText) (put-then s₁ l (put-then s₂ (omega arith) (put-then s₃ (omega arith) (put-then s₄ (omega arith) s₅))))
 
 -- THE CALL, behind blanks up to i.
-module _ (look : List ℕ → List ℕ) {t : List ℕ} {at i : ℕ} (L : Spans blank t at i) {c : Bool} (s : Sees (byteIs 60) t i c) {b : List ℕ} {p : ℕ} where
-  pub link-back : c ≡ true → Calls (link look (drop at t)) t at b p b (record { outcome = HandedBack; at = i })
+module _ (look : List ℕ → List ℕ) {t : List ℕ} {at i : ℕ} (L : Spans blank t at i) {c : Bool} (s : Sees (byteIs 60) t i c) {room : ℕ} {b : List ℕ} {p : ℕ} where
+  pub link-back : c ≡ true → Calls room (link look (drop at t)) t at b p b (record { outcome = HandedBack; at = i })
   unfolding link Says _>>=_ _>>_ ifR ret
   link-back e = record { on = L .on; inside = L .inside; size = refl; says = (rw (L .rest, sees-the "<" s e .says) refl, refl) }
 
-  pub link-put : c ≡ false → p ≤ length b → {o : List ℕ} {k q : ℕ} → Wrote (length b) (expression look (take (length t - i) (drop i t))) (take (length t - i) (drop i t)) b p o k q →
-      {e : Ending} → Closes linkEnd t (i + k) e → {d : List ℕ} {r : ℕ} → Linked (part t (e .from) (e .to)) p o q d r → Calls (link look (drop at t)) t at b p d (record { outcome = Output (e .whole) r; at = e .at })
+  pub link-put : c ≡ false → {m : Measured} → MeasuresRead room (expression look (take (length t - i) (drop i t))) (take (length t - i) (drop i t)) m →
+      {e : Ending} → Closes linkEnd t (i + m .used) e → {d : List ℕ} {r : ℕ} → Put room b p (linkText (expression look (take (length t - i) (drop i t)) .0) (part t (e .from) (e .to))) d r → Calls room (link look (drop at t)) t at b p d (record { outcome = Output (e .whole) r; at = e .at })
   unfolding Says
-  link-put f h {o} {k} {q} w {e} E {d} {r} K =
+  link-put f {m} w {e} E {d} {r} K =
       let u = expression look (drop i t) .0 in
-      let v : Wrote (length b) (expression look (drop i t)) (drop i t) b p o k q = rw tail-part at w in
-      let F = K b u h (v .put) in
+      let v : MeasuresRead room (expression look (drop i t)) (drop i t) m = rw tail-part at w in
+      let F : Put room b p (linkText u (part t (e .from) (e .to))) d r = rw tail-part at K in
       record {
         on = omega (arith, L .on, E .on);
         inside = E .inside;
-        size = F .size;
-        says = (linkText u (part t (e .from) (e .to)), reads v ∙ E .says u, F);
+        size = put-length F;
+        says = (linkText u (part t (e .from) (e .to)), reads v ∙ E .says u, put-fills F);
       }
     where
-      reads : Wrote (length b) (expression look (drop i t)) (drop i t) b p o k q → link look (drop at t) ≡ linkEnd (expression look (drop i t) .0) (drop (i + k) t)
-      reads v = unfold link _>>=_ _>>_ ifR in (rw (L .rest, sees-the "<" s f .says, v .rest, drop-drop k i t) refl)
+      reads : MeasuresRead room (expression look (drop i t)) (drop i t) m → link look (drop at t) ≡ linkEnd (expression look (drop i t) .0) (drop (i + m .used) t)
+      reads v = unfold link _>>=_ _>>_ ifR in (rw (L .rest, sees-the "<" s f .says, v .rest, drop-drop (m .used) i t) refl)

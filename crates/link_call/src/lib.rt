@@ -2,15 +2,18 @@
 use calls::Called;
 use calls::Outcome;
 use scan::Set;
-ghost use Prim.Native.Nat.{_+_, _≤_, _<_};
+ghost use mathlib.Core.Path.{_≡_};
+ghost use mathlib.Core.Bool.{_||_};
+ghost use Prim.Native.Nat.{_≤_, _<_};
 ghost use lib.ListN.{length, drop};
+ghost use Rattle.rules.specs.Reader.{empty, same};
+ghost use Rattle.rules.specs.Strings.{expression};
 ghost use Rattle.rules.specs.Sheet.{resolveString};
-ghost use Rattle.rules.specs.Expansion.{linkContentBlock, linkEnd, link};
+ghost use Rattle.rules.specs.Expansion.{linkText, linkContentBlock, linkEnd, link};
 ghost use Rattle.sheet.specs.Find.{IsSheet};
-ghost use Rattle.buffers.specs.Put.{Put};
-ghost use Rattle.scan.specs.Sets.{part};
+ghost use Rattle.buffers.specs.Put.{after, Writer, Put};
 ghost use Rattle.calls.specs.Called.{Calls};
-ghost use Rattle.link_call.specs.Link.{Closes, withContentBlock, Linked};
+ghost use Rattle.link_call.specs.Link.{Closes};
 
 // How a call ends: on its own `)` or `]`; where reading goes on; where the text of its content block begins and ends. Without one the text
 // is empty.
@@ -66,44 +69,49 @@ fn call_end(text: &[u8], at: usize) -> Ending
     }
 }
 
-// Puts the link of an address that stands in the buffer from p to q: the address is moved up by what stands before it.
-fn put_content_block(text: &[u8], out: &mut [u8], p: usize, q: usize) -> usize
-    requires { ⌜ (p ≤ q) × (q + 7 ≤ length (now out)) ⌝ }
-    ensures { λ r. ⌜ Put (length (now (out .entry))) (now (out .entry)) p (withContentBlock (part (now (out .entry)) p q) (now (text .entry))) (now (out .exit)) r ⌝ }
+// Is a call's text its address alone? Then the content block's text is empty, or the address, with which it is compared while that is read. `len`: the
+// address's length, as far as the room goes.
+fn address_alone(address: &[u8], sheet: &[u8], text: &[u8], len: usize, room: usize) -> bool
+    requires { ⌜ IsSheet (now sheet) × ((s : IsSheet (now sheet)) → len ≡ after room 0 (length (expression (resolveString (s .r)) (now address) .0))) ⌝ }
+    ensures { λ r. ⌜ ((s : IsSheet (now (sheet .entry))) → r ≡ (empty (now (text .entry)) || same (now (text .entry)) (expression (resolveString (s .r)) (now (address .entry)) .0))) ⌝ }
 {
-    let room = out.len();
-    buffers::move_up(out, p, q, 7);
-    buffers::store(out, p, b"#link(\"");
-    let a = buffers::put(out, room, q + 7, b"\")[");
-    let b = buffers::put(out, room, a, text);
-    buffers::put(out, room, b, b"]")
-}
-
-// Puts a call's text over its address, which was put at p: alone where the text of the content block is empty or the same.
-fn put_link(text: &[u8], out: &mut [u8], p: usize, q: usize) -> usize
-    requires { ⌜ (p ≤ q) × (q ≤ length (now out) + 2) ⌝ }
-    ensures { λ r. ⌜ Linked (now (text .entry)) p (now (out .entry)) q (now (out .exit)) r ⌝ }
-{
-    let room = out.len();
     if text.len() == 0 {
-        return q;
+        return true;
     }
-    if room < q {
-        return q;
+    if (len <= room) & (len != text.len()) {
+        return false;
     }
-    if scan::same(text, &out[p..q]) {
-        return q;
-    }
-    if room - q < 7 {
-        return room + 2;
-    }
-    put_content_block(text, out, p, q)
+    calls::measure::is_text(address, sheet, text)
 }
 
-// Reads a link call from behind its `(`, and puts its text. At `<` it is handed back.
-pub fn link(text: &[u8], at: usize, sheet: &[u8], out: &mut [u8], p: usize) -> Called
-    requires { ⌜ (at ≤ length (now text)) × (p ≤ length (now out)) × IsSheet (now sheet) ⌝ }
-    ensures { λ r. ⌜ ((s : IsSheet (now (sheet .entry))) → Calls (link (resolveString (s .r)) (drop at (now (text .entry)))) (now (text .entry)) at (now (out .entry)) p (now (out .exit)) r) ⌝ }
+// Puts the text of a call: the address alone, or a link of it with the content block's text.
+fn put_link(
+    address: &[u8],
+    sheet: &[u8],
+    text: &[u8],
+    len: usize,
+    out: &mut [u8],
+    room: usize,
+    p: usize,
+) -> usize
+    requires { ⌜ Writer room p × (length (now out) ≤ room) × IsSheet (now sheet) × ((s : IsSheet (now sheet)) → len ≡ after room 0 (length (expression (resolveString (s .r)) (now address) .0))) ⌝ }
+    ensures { λ r. ⌜ ((s : IsSheet (now (sheet .entry))) → Put room (now (out .entry)) p (linkText (expression (resolveString (s .r)) (now (address .entry)) .0) (now (text .entry))) (now (out .exit)) r) ⌝ }
+{
+    if address_alone(address, sheet, text, len, room) {
+        let r = strings::expression(address, sheet, out, room, p);
+        return r.next;
+    }
+    let a = buffers::put(out, room, p, b"#link(\"");
+    let r = strings::expression(address, sheet, out, room, a);
+    let b = buffers::put(out, room, r.next, b"\")[");
+    let c = buffers::put(out, room, b, text);
+    buffers::put(out, room, c, b"]")
+}
+
+// Reads a link call from behind its `(`, and puts its text. At `<` it is handed back. What is answered does not depend on the buffer.
+pub fn link(text: &[u8], at: usize, sheet: &[u8], out: &mut [u8], room: usize, p: usize) -> Called
+    requires { ⌜ (at ≤ length (now text)) × Writer room p × (length (now out) ≤ room) × IsSheet (now sheet) ⌝ }
+    ensures { λ r. ⌜ ((s : IsSheet (now (sheet .entry))) → Calls room (link (resolveString (s .r)) (drop at (now (text .entry)))) (now (text .entry)) at (now (out .entry)) p (now (out .exit)) r) ⌝ }
 {
     let i = scan::span(text, at, Set::Blank);
     if scan::at(text, i, b'<') {
@@ -112,12 +120,12 @@ pub fn link(text: &[u8], at: usize, sheet: &[u8], out: &mut [u8], p: usize) -> C
             at: i,
         };
     }
-    let room = out.len();
-    let r = strings::expression(&text[i..], sheet, out, room, p);
-    let e = call_end(text, i + r.used);
+    let m = calls::measure::expression(&text[i..], sheet, room);
+    let e = call_end(text, i + m.used);
     let from = e.from;
     let to = e.to;
-    let next = put_link(&text[from..to], out, p, r.next);
+    let size = m.size;
+    let next = put_link(&text[i..], sheet, &text[from..to], size.len, out, room, p);
     Called {
         outcome: Outcome::Output {
             whole: e.whole,

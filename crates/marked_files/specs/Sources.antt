@@ -13,8 +13,8 @@ use Rattle.rules.specs.Run.{ok, endsInNewline}
 use Rattle.rules.specs.Bytes.{join}
 use Rattle.rules.specs.Files.{View, opened}
 use Rattle.rules.specs.Includes.{lastNewline, fenced}
-use Rattle.buffers.specs.Put.{Put, Writer}
-use Rattle.buffers.specs.Laws.{put-length, put-writer, put-then}
+use Rattle.buffers.specs.Put.{Put}
+use Rattle.buffers.specs.Laws.{put-length, put-then}
 use Rattle.scan.specs.Laws.{not-empty, ends-last}
 use Rattle.paths.specs.Paths.{Joins}
 use Rattle.paths.specs.declared.Joined.{Joined}
@@ -45,16 +45,13 @@ pub close-newline : (c : List ℕ) → (length c ≡ 0 → ⊥) → getD c (leng
 unfolding lastNewline
 close-newline c h e = rw (ends-last c (omega arith) ∙ eq-eqb (getD c (length c - 1) 0) 10 e, not-empty c h, lastNewline) refl
 
-pub block-put : {room : ℕ} {b : List ℕ} {p : ℕ} {l c b₁ b₂ b₃ b₄ b₅ : List ℕ} {p₁ p₂ p₃ p₄ p₅ : ℕ} → Writer room p → length b ≤ room →
+pub block-put : {room : ℕ} {b : List ℕ} {p : ℕ} {l c b₁ b₂ b₃ b₄ b₅ : List ℕ} {p₁ p₂ p₃ p₄ p₅ : ℕ} → length b ≤ room →
     Put room b p (bytes "```") b₁ p₁ → Put room b₁ p₁ l b₂ p₂ → Put room b₂ p₂ (bytes "\n") b₃ p₃ → Put room b₃ p₃ c b₄ p₄ → Put room b₄ p₄ (lastNewline c ++ bytes "```\n") b₅ p₅ → Put room b p (blockText l c) b₅ p₅
-block-put {room} {b} {p} {l} {c} w h s₁ s₂ s₃ s₄ s₅ =
-    let w₁ = put-writer s₁ w in
-    let w₂ = put-writer s₂ w₁ in
-    let w₃ = put-writer s₃ w₂ in
+block-put h s₁ s₂ s₃ s₄ s₅ =
     let l₁ = put-length s₁ in
     let l₂ = put-length s₂ in
     let l₃ = put-length s₃ in
-    put-then s₁ h (w .place) (put-then s₂ (omega arith) (w₁ .place) (put-then s₃ (omega arith) (w₂ .place) (put-then s₄ (omega arith) (w₃ .place) s₅)))
+    put-then s₁ h (put-then s₂ (omega arith) (put-then s₃ (omega arith) (put-then s₄ (omega arith) s₅)))
 
 -- OPENING.
 module _ (b : List ℕ) (v : View) {g p q : List ℕ} {j : Joined} (k : Joins g p j) (e : g ≡ q) where

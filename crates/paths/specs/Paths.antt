@@ -12,7 +12,7 @@ use Prim.Native.Nat.{ℕ, suc, _+_, _-_, _≤_, _<_}
 use Rattle.rules.specs.Reader.{the, but, all, empty, prefix, same, bytes}
 use Rattle.rules.specs.Bytes.{blank, runByte, prepend, split, isSegment, isPath, isFolder, holds, parent, join, trim, trimEnd}
 use Rattle.scan.specs.Sets.{Spans}
-use Rattle.scan.specs.Laws.{drop-take, tail-part}
+use Rattle.scan.specs.Laws.{drop-take, tail-part, not-empty}
 use Rattle.paths.specs.declared.Joined.{Joined}
 use Rattle.paths.specs.declared.Range.{Range}
 use Rattle.paths.specs.declared.Segment.{Segment}
@@ -401,58 +401,59 @@ module _ (g p : List ℕ) (n : ℕ) (l : JoinedLen g p n) where
       let q : i ≡ n = omega (arith, k .inside) in
       record { says = sym (le-leb (length (join g p)) 255 (omega (arith, e))); fits = h; size = k .size; text = λ z. rw q at (k .text) ∙ take-all n (join g p) (omega (arith, e)) }
 
--- The trimmed text, with i bytes passed and the last one that is not blank before n, by whether only blanks follow.
-abbrev pub closing : List ℕ → ℕ → ℕ → Bool → List ℕ
-closing t i n true = take n t
-closing t i n false = take i t ++ trimEnd (drop i t)
-
-pub record Trimming (t : List ℕ) (i n : ℕ) : Type 0 where
-  pub inside : i ≤ length t
-  pub below : n ≤ i
-  pub rest : trimEnd t ≡ closing t i n (empty (trimEnd (drop i t)))
-
-is-empty : (t : List ℕ) → empty t ≡ true → t ≡ []
-unfolding empty
-is-empty [] h = refl
-is-empty (x ∷ xs) h = absurd (true≢false (sym h))
-
-pub trimEnd-cons : (x : ℕ) (xs : List ℕ) (c : Bool) → (blank x && empty (trimEnd xs)) ≡ c → trimEnd (x ∷ xs) ≡ elim c [ true ↦ [] | false ↦ x ∷ trimEnd xs ]
+-- Blanks behind a text are trimmed with its own; behind anything else the text stays whole.
+trimEnd-cons : (x : ℕ) (xs : List ℕ) (c : Bool) → (blank x && empty (trimEnd xs)) ≡ c → trimEnd (x ∷ xs) ≡ elim c [ true ↦ [] | false ↦ x ∷ trimEnd xs ]
 unfolding trimEnd
 trimEnd-cons x xs c q = rw (q, trimEnd)
 
-pub trimming-start : (t : List ℕ) → Trimming t 0 0
-trimming-start t = record { inside = omega arith; below = omega arith; rest = at (empty (trimEnd t)) refl }
+pub trim-append : (v w : List ℕ) → trimEnd w ≡ [] → trimEnd (v ++ w) ≡ trimEnd v
+unfolding trimEnd
+trim-append [] w h = h
+trim-append (x ∷ xs) w h =
+    let e = trim-append xs w h in
+    trimEnd-cons x (xs ++ w) (blank x && empty (trimEnd xs)) (ap (λ z. blank x && empty z) e) ∙ ap (λ z. elim (blank x && empty (trimEnd xs)) [ true ↦ [] | false ↦ x ∷ z ]) e ∙ sym (trimEnd-cons x xs (blank x && empty (trimEnd xs)) refl)
+
+pub trim-whole : (v w : List ℕ) → 0 < length (trimEnd w) → trimEnd (v ++ w) ≡ v ++ trimEnd w
+trim-whole [] w h = refl
+trim-whole (x ∷ xs) w h =
+    let e = trim-whole xs w h in
+    let l = length-append xs (trimEnd w) in
+    trimEnd-cons x (xs ++ w) false (rw (not-empty (trimEnd (xs ++ w)) (λ z. absurd (omega (arith, ap length e))), and-false) refl) ∙ ap (λ z. x ∷ z) e
+
+pub trim-first : (v : List ℕ) → take (length (trimEnd v)) v ≡ trimEnd v
+unfolding trimEnd
+trim-first [] = refl
+trim-first (x ∷ xs) = at (blank x && empty (trimEnd xs)) refl (trim-first xs)
   where
-    at : (c : Bool) → empty (trimEnd t) ≡ c → trimEnd t ≡ closing t 0 0 c
-    at true q = is-empty (trimEnd t) q
-    at false q = refl
+    at : (c : Bool) → (blank x && empty (trimEnd xs)) ≡ c → take (length (trimEnd xs)) xs ≡ trimEnd xs → take (length (trimEnd (x ∷ xs))) (x ∷ xs) ≡ trimEnd (x ∷ xs)
+    at true e ih = let z = trimEnd-cons x xs true e in ap (λ y. take (length y) (x ∷ xs)) z ∙ sym z
+    at false e ih = let z = trimEnd-cons x xs false e in ap (λ y. take (length y) (x ∷ xs)) z ∙ ap (λ y. x ∷ y) ih ∙ sym z
 
-closing-next : (t : List ℕ) (i : ℕ) (z : List ℕ) → i < length t → take i t ++ (getD t i 0 ∷ z) ≡ take (suc i) t ++ z
-closing-next t i z h = rw (take-suc t i 0 h, append-assoc) refl
+-- Behind n bytes there are blanks alone.
+pub record Trimming (t : List ℕ) (n : ℕ) : Type 0 where
+  pub inside : n ≤ length t
+  pub rest : trimEnd t ≡ trimEnd (take n t)
 
-module _ {t : List ℕ} {i n : ℕ} (k : Trimming t i n) (h : i < length t) where
-  pub trimming-blank : blank (getD t i 0) ≡ true → {m : ℕ} → m ≡ n → Trimming t (i + 1) m
-  unfolding empty
-  trimming-blank e {m} w = rw (w, add-one) (record { inside = omega arith; below = omega (arith, k .below); rest = k .rest ∙ at (empty (trimEnd (drop (suc i) t))) refl })
-    where
-      at : (c : Bool) → empty (trimEnd (drop (suc i) t)) ≡ c → closing t i n (empty (trimEnd (drop i t))) ≡ closing t (suc i) n (empty (trimEnd (drop (suc i) t)))
-      at true q = rw (q, drop-cons t i 0, trimEnd-cons (getD t i 0) (drop (suc i) t) true (rw (e, q) refl)) refl
-      at false q = rw (q, drop-cons t i 0, trimEnd-cons (getD t i 0) (drop (suc i) t) false (rw (e, q) refl)) (rw (drop-cons t i 0, trimEnd-cons (getD t i 0) (drop (suc i) t) false (rw (e, q) refl)) (closing-next t i (trimEnd (drop (suc i) t)) h))
+pub trimming-start : (t : List ℕ) → Trimming t (length t)
+trimming-start t = record { inside = omega arith; rest = ap trimEnd (sym (take-all (length t) t (omega arith))) }
 
-  pub trimming-more : blank (getD t i 0) ≡ false → {m : ℕ} → m ≡ i + 1 → Trimming t (i + 1) m
-  unfolding empty
-  trimming-more e {m} w = rw (w, add-one) (record { inside = omega arith; below = omega arith; rest = k .rest ∙ whole-so-far ∙ at (empty (trimEnd (drop (suc i) t))) refl })
-    where
-      whole-so-far : closing t i n (empty (trimEnd (drop i t))) ≡ take (suc i) t ++ trimEnd (drop (suc i) t)
-      whole-so-far = rw (drop-cons t i 0, trimEnd-cons (getD t i 0) (drop (suc i) t) false (rw e refl)) (rw (drop-cons t i 0, trimEnd-cons (getD t i 0) (drop (suc i) t) false (rw e refl)) (closing-next t i (trimEnd (drop (suc i) t)) h))
+module _ {t : List ℕ} {n : ℕ} (k : Trimming t n) (h : 0 < n) where
+  last : take n t ≡ take (n - 1) t ++ (getD t (n - 1) 0 ∷ [])
+  last = let e : n ≡ suc (n - 1) = omega arith in ap (λ z. take z t) e ∙ take-suc t (n - 1) 0 (omega (arith, k .inside))
 
-      at : (c : Bool) → empty (trimEnd (drop (suc i) t)) ≡ c → take (suc i) t ++ trimEnd (drop (suc i) t) ≡ closing t (suc i) (suc i) (empty (trimEnd (drop (suc i) t)))
-      at true q = rw (q, is-empty (trimEnd (drop (suc i) t)) q) (append-nil (take (suc i) t))
-      at false q = rw q
+  pub trimming-blank : blank (getD t (n - 1) 0) ≡ true → Trimming t (n - 1)
+  trimming-blank e = record { inside = omega (arith, k .inside); rest = k .rest ∙ ap trimEnd last ∙ trim-append (take (n - 1) t) (getD t (n - 1) 0 ∷ []) (trimEnd-cons (getD t (n - 1) 0) [] true (unfold trimEnd empty in (rw e refl))) }
 
-pub trimming-end : {t : List ℕ} {i n : ℕ} → Trimming t i n → length t ≤ i → TrimsEnd t n
-unfolding trimEnd empty
-trimming-end {t} {i} {n} k h = record { inside = omega (arith, k .below, k .inside); text = sym (k .rest ∙ rw (drop-of-length-le t h) refl) }
+  pub trimming-stop : blank (getD t (n - 1) 0) ≡ false → TrimsEnd t n
+  trimming-stop e =
+      let x = getD t (n - 1) 0 in
+      let y : trimEnd (x ∷ []) ≡ x ∷ [] = trimEnd-cons x [] false (rw e refl) ∙ (unfold trimEnd in refl) in
+      record { inside = k .inside; text = last ∙ sym (k .rest ∙ ap trimEnd last ∙ trim-whole (take (n - 1) t) (x ∷ []) (omega (arith, ap length y)) ∙ ap (λ z. take (n - 1) t ++ z) y) }
+
+pub trimming-none : {t : List ℕ} {n : ℕ} → Trimming t n → n ≤ 0 → TrimsEnd t n
+trimming-none {t} {n} k h =
+    let e : n ≡ 0 = omega arith in
+    record { inside = k .inside; text = ap (λ z. take z t) e ∙ sym (k .rest ∙ ap (λ z. trimEnd (take z t)) e ∙ (unfold trimEnd in refl)) }
 
 -- The trimmed part: behind the leading blanks, up to the trailing ones.
 pub trims : (t : List ℕ) (from to a n : ℕ) → from ≤ to → to ≤ length t

@@ -192,15 +192,14 @@ pub fn join(folder: &[u8], path: &[u8]) -> Joined
 pub fn trim_end(text: &[u8]) -> usize
     ensures { λ r. ⌜ TrimsEnd (now (text .entry)) r ⌝ }
 {
-    let mut end: usize = 0;
-    let mut i: usize = 0;
-    while i < text.len() {
-        if !member(Set::Blank, text[i]) {
-            end = i + 1;
+    let mut n = text.len();
+    while 0 < n {
+        if !member(Set::Blank, text[n - 1]) {
+            return n;
         }
-        i += 1;
+        n -= 1;
     }
-    end
+    n
 }
 
 // A part of a text.

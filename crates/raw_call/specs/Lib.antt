@@ -1,3 +1,1 @@
-pub mod Args
-pub mod Content
 pub mod Raw

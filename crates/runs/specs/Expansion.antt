@@ -51,7 +51,7 @@ pub record Wrote (v : View) (L o l : ℕ) (s : Records) (t c m : List ℕ) (r : 
   pub sheet-fits : r .len ≤ l
   pub wholes : allWhole (expansion v s t) ≡ r .whole
 
-module _ (l₀ : List ℕ) {v : View} {t z o c m : List ℕ} {r : Ran} (s : Checked z) (h : length z ≤ limit (length l₀)) (E : Expands (limit (length l₀)) 11 v t o 0 c (sets l₀ 0 z) (length z) m r) where
+module _ (l₀ : List ℕ) {v : View} {t z o c m : List ℕ} {r : Ran} (s : Checked z) (h : length z ≤ limit (length l₀)) (E : Expands (limit (length l₀)) 11 (length o) v t o 0 c (sets l₀ 0 z) (length z) m r) where
   abbrev Later : Answer (List ℕ) → Answer (List ℕ × Records)
   Later a = _>>=_ {B = List ℕ × Records} a (λ o. accepted (o, final (expansion v (s .r) t)))
 
@@ -120,8 +120,8 @@ module _ (b t z l₀ : List ℕ) {L : ℕ} (q : L ≡ limit (length l₀)) (f₀
   pub expansion-keeps : Keeps l₁ (length z) L
   expansion-keeps = rw (S, q) (sheet-keeps l₀ (f .sheets) (f .fits))
 
-  module _ {o c m : List ℕ} {r : Ran} (E₀ : Expands L 11 (view (entriesOf b)) t o 0 c l₁ (length z) m r) where
-    E : Expands (limit (length l₀)) 11 (view (entriesOf b)) t o 0 c (sets l₀ 0 z) (length z) m r
+  module _ {o c m : List ℕ} {r : Ran} (E₀ : Expands L 11 (length o) (view (entriesOf b)) t o 0 c l₁ (length z) m r) where
+    E : Expands (limit (length l₀)) 11 (length o) (view (entriesOf b)) t o 0 c (sets l₀ 0 z) (length z) m r
     E = rw (S, q) at E₀
 
     left-same : length m ≡ length l₀

@@ -18,4 +18,4 @@ refusedOutcome k = record { number = k; len = 0; sheet = 0; closed = false }
 pub written-first : {full room : ℕ} {e : Emit} {b c : List ℕ} {q : ℕ} (w : Writes full room e b 0 c q) → room ≡ length b → (q ≡ length (w .text)) × (take q c ≡ w .text)
 written-first {b = b} {q = q} w l =
     let f : q ≡ length (w .text) = omega (arith, w .fills .place) in
-    (f, w .fills .holds ∙ ap (λ x. take x (sets b 0 (w .text))) f ∙ stored-first b (w .text) (omega (arith, w .fits)))
+    (f, ap (take q) (w .fills .stored) ∙ ap (λ x. take x (sets b 0 (w .text))) f ∙ stored-first b (w .text) (omega (arith, w .fits)))

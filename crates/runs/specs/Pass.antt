@@ -112,8 +112,8 @@ module _ {b g t z l₀ : List ℕ} {L : ℕ} (B : Begins b g t z l₀ L) {m c : 
       pub run-keeps : Keeps l₁ (length z) L
       run-keeps = rw (S, B .limits) (sheet-keeps l₀ (B .good .sheets) (B .good .fits))
 
-      module _ {o o₂ l₂ : List ℕ} {r : Ran} (E : Expands L 11 (view (entriesOf b)) (take q c) o 0 o₂ l₁ (length z) l₂ r) where
-        F : Expands (limit (length l₀)) 11 (view (entriesOf b)) (take q c) o 0 o₂ (sets l₀ 0 z) (length z) l₂ r
+      module _ {o o₂ l₂ : List ℕ} {r : Ran} (E : Expands L 11 (length o) (view (entriesOf b)) (take q c) o 0 o₂ l₁ (length z) l₂ r) where
+        F : Expands (limit (length l₀)) 11 (length o) (view (entriesOf b)) (take q c) o 0 o₂ (sets l₀ 0 z) (length z) l₂ r
         F = rw (S, B .limits) at E
 
         then-expanded : passResult (settingOf b g (length m) (length o) (length l₀)) z t ≡ expanded (view (entriesOf b)) (limit (length l₀)) (length o) (B .good .sheets .r) (take q c)

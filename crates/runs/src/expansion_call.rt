@@ -21,7 +21,8 @@ pub fn preprocess_typst(
         return refused(number);
     }
     buffers::store(left, 0, sheet);
-    let r = expansion::expand(bundle, text, out, 0, left, sheet.len(), limit, 11);
+    let room = out.len();
+    let r = expansion::expand(bundle, text, out, room, 0, left, sheet.len(), limit, 11);
     if !r.ok {
         return refused(r.number);
     }

@@ -39,7 +39,18 @@ fn run(
     }
     buffers::store(left, 0, sheet);
     let end = m.next;
-    let e = expansion::expand(bundle, &middle[..end], out, 0, left, sheet.len(), limit, 11);
+    let space = out.len();
+    let e = expansion::expand(
+        bundle,
+        &middle[..end],
+        out,
+        space,
+        0,
+        left,
+        sheet.len(),
+        limit,
+        11,
+    );
     if !e.ok {
         return refused(e.number);
     }

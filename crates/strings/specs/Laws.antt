@@ -23,10 +23,11 @@ use Rattle.sheet.specs.Find.{IsSheet, Gives, foundText, gives-string}
 use Rattle.scan.specs.Laws.{seen, skip-at}
 use Rattle.scan.specs.Laws.{tail-part}
 use Rattle.scan.specs.Stretches.{span-stops}
-use Rattle.scan.specs.Sets.{plainByte, Spans, Sees}
-use Rattle.buffers.specs.Put.{Put, Writer}
-use Rattle.buffers.specs.Laws.{put-none, put-then}
-use Rattle.strings.specs.Read.{Wrote, IsTerm}
+use Rattle.scan.specs.Sets.{part, plainByte, Spans, Sees}
+use Rattle.buffers.specs.Put.{Writer}
+use Rattle.strings.specs.declared.progress.Progress.{Progress}
+use Rattle.strings.specs.Progress.{Adds, adds-none, adds-then}
+use Rattle.strings.specs.Read.{beginning, Wrote, Took, IsTerm, Places}
 
 onto-onto : (a b : List ℕ) (r : List ℕ × List ℕ) → onto a (onto b r) ≡ onto (a ++ b) r
 unfolding onto
@@ -79,40 +80,39 @@ unfolding escape
 escape-both x a b c d = rw (is-no "n" x a, is-no "t" x b, is-no "\"" x c, is-no "\\" x d, escape) refl
 
 -- A literal is read up to i, no backslash open.
-pub record LiteralAt (room : ℕ) (t b : List ℕ) (p : ℕ) (c : List ℕ) (q i : ℕ) : Type 0 where
+pub record LiteralAt (room : ℕ) (o t b : List ℕ) (a : Progress) (c : List ℕ) (z : Progress) (i : ℕ) : Type 0 where
   pub inside : i ≤ length t
   pub text : List ℕ
-  pub put : Put room b p text c q
+  pub adds : Adds room o b a text c z
   pub left : literal t ≡ onto text (literalFrom (drop i t) false)
 
-pub literal-start : (room : ℕ) (t b : List ℕ) (p : ℕ) → LiteralAt room t b p b p 0
+pub literal-start : {room : ℕ} {a : Progress} → Writer room (a .next) → (o t b : List ℕ) → LiteralAt room o t b a b a 0
 unfolding literal onto
-literal-start room t b p = record { inside = omega arith; text = []; put = put-none room b p; left = refl }
+literal-start w o t b = record { inside = omega arith; text = []; adds = adds-none w o b; left = refl }
 
--- w: what the buffers ask of a writer.
-module _ {room : ℕ} {t b : List ℕ} {p : ℕ} (w : Writer room p) (l : length b ≤ room) {c : List ℕ} {q i : ℕ} (s : LiteralAt room t b p c q i)
-    {j : ℕ} (n : Spans plainByte t i j) {d : List ℕ} {r : ℕ} (u : Put room c q (take (j - i) (drop i t)) d r) where
+module _ {room : ℕ} {o t b : List ℕ} {a : Progress} (l : length b ≤ room) {c : List ℕ} {z : Progress} {i : ℕ} (s : LiteralAt room o t b a c z i)
+    {j : ℕ} (n : Spans plainByte t i j) {d : List ℕ} {r : Progress} (u : Adds room o c z (take (j - i) (drop i t)) d r) where
   -- Behind a stretch of plain bytes.
-  behind : LiteralAt room t b p d r j
-  behind = record {
+  passed : LiteralAt room o t b a d r j
+  passed = record {
     inside = n .inside;
     text = s .text ++ take (j - i) (drop i t);
-    put = put-then (s .put) l (w .place) u;
+    adds = adds-then l (s .adds) u;
     left = s .left ∙ ap (onto (s .text)) (plain (drop i t) ∙ ap (λ z. onto z (literalFrom (span plainByte (drop i t) .1) false)) (n .took) ∙ ap (λ z. onto (take (j - i) (drop i t)) (literalFrom z false)) (n .rest)) ∙ onto-onto (s .text) _ _;
   }
 
-  done : {k : ℕ} {e : List ℕ} {m : ℕ} (v : List ℕ) → k ≤ length t → Put room d r v e m → literalFrom (drop j t) false ≡ (v, drop k t) → Wrote room (literal t) t b p e k m
+  done : {k : ℕ} {e : List ℕ} {m : Progress} (v : List ℕ) → k ≤ length t → Adds room o d r v e m → literalFrom (drop j t) false ≡ (v, drop k t) → Took room o (literal t) t b a e k m
   unfolding onto
   done v h x y =
-      let z = behind .left ∙ ap (onto (behind .text)) y in
-      record { inside = h; rest = ap (λ o. o .1) z; put = rw z (put-then (behind .put) l (w .place) x) }
+      let z = passed .left ∙ ap (onto (passed .text)) y in
+      record { inside = h; rest = ap (λ o. o .1) z; adds = rw z (adds-then l (passed .adds) x) }
 
-  pub literal-end : length t ≤ j → Wrote room (literal t) t b p d j r
+  pub literal-end : Writer room (r .next) → length t ≤ j → Took room o (literal t) t b a d j r
   unfolding literalFrom
-  literal-end h = done [] (n .inside) (put-none room d r) (rw (drop-of-length-le t h) refl)
+  literal-end w h = done [] (n .inside) (adds-none w o d) (rw (drop-of-length-le t h) refl)
 
-  pub literal-quote : j < length t → getD t j 0 ≡ 34 → Wrote room (literal t) t b p d (j + 1) r
-  literal-quote h x = done [] (omega arith) (put-none room d r) (rw (add-one, drop-cons t j 0) (from-quote _ _ (is-yes "\"" _ x)))
+  pub literal-quote : Writer room (r .next) → j < length t → getD t j 0 ≡ 34 → Took room o (literal t) t b a d (j + 1) r
+  literal-quote w h x = done [] (omega arith) (adds-none w o d) (rw (add-one, drop-cons t j 0) (from-quote _ _ (is-yes "\"" _ x)))
 
   slash : j < length t → (getD t j 0 ≡ 34 → ⊥) → literalFrom (drop j t) false ≡ literalFrom (drop (suc j) t) true
   slash h x =
@@ -120,49 +120,41 @@ module _ {room : ℕ} {t b : List ℕ} {p : ℕ} (w : Writer room p) (l : length
       let f = span-stops plainByte (drop i t) (getD t j 0) (drop (suc j) t) (n .rest ∙ drop-cons t j 0 h) in
       rw (drop-cons t j 0) (from-slash _ _ a (plain-slash _ _ _ refl refl f a))
 
-  pub literal-last : {e : List ℕ} {m : ℕ} → j < length t → (getD t j 0 ≡ 34 → ⊥) → length t - j ≡ 1 → Put room d r (92 ∷ []) e m → Wrote room (literal t) t b p e (j + 1) m
+  pub literal-last : {e : List ℕ} {m : Progress} → j < length t → (getD t j 0 ≡ 34 → ⊥) → length t - j ≡ 1 → Adds room o d r (92 ∷ []) e m → Took room o (literal t) t b a e (j + 1) m
   unfolding literalFrom
   literal-last h x y z = done (92 ∷ []) (omega arith) z (slash h x ∙ rw (drop-of-length-le t {i = suc j} (omega arith), drop-of-length-le t {i = j + 1} (omega arith)) refl)
 
-  pub literal-escape : {e : List ℕ} {m : ℕ} → j < length t → (getD t j 0 ≡ 34 → ⊥) → (length t - j ≡ 1 → ⊥) → Put room d r (escape (getD t (j + 1) 0)) e m → LiteralAt room t b p e m (j + 2)
+  pub literal-escape : {e : List ℕ} {m : Progress} → j < length t → (getD t j 0 ≡ 34 → ⊥) → (length t - j ≡ 1 → ⊥) → Adds room o d r (escape (getD t (j + 1) 0)) e m → LiteralAt room o t b a e m (j + 2)
   unfolding literalFrom
   literal-escape h x y z =
       let g : literalFrom (drop (suc j) t) true ≡ onto (escape (getD t (suc j) 0)) (literalFrom (drop (suc (suc j)) t) false) = rw (drop-cons t (suc j) 0 (omega arith)) refl in
       record {
         inside = omega arith;
-        text = behind .text ++ escape (getD t (suc j) 0);
-        put = put-then (behind .put) l (w .place) (rw add-one at z);
-        left = rw add-two (behind .left ∙ ap (onto (behind .text)) (slash h x ∙ g) ∙ onto-onto (behind .text) _ _);
+        text = passed .text ++ escape (getD t (suc j) 0);
+        adds = adds-then l (passed .adds) (rw add-one at z);
+        left = rw add-two (passed .left ∙ ap (onto (passed .text)) (slash h x ∙ g) ∙ onto-onto (passed .text) _ _);
       }
 
 -- REFERENCES. What a lookup found, as a text.
-pub record Places (s : List ℕ) (x : Option Value) (a b : ℕ) : Type 0 where
-  pub on : a ≤ b
-  pub inside : b ≤ length s
-  pub text : take (b - a) (drop a s) ≡ textOf x
-
-pub text-places : {s : List ℕ} {x : Option Value} {f : Found} {a b : ℕ} → Gives s x f → f ≡ Text a b → Places s x a b
+text-places : {s : List ℕ} (x : Option Value) {f : Found} {a b : ℕ} → Gives s x f → f ≡ Text a b → Places s (textOf x) a b
 unfolding Gives textOf
-text-places {s} {x} g e =
+text-places {s} x g e =
     let h = rw e at g in
     record { on = omega (arith, h .2 .ends); inside = h .2 .inside; text = part-slice (h .2) ∙ sym (ap textOf (h .1)) }
 
-pub no-text : (s : List ℕ) (x : Option Value) (f : Found) {g : Found} → Gives s x f → f ≡ g → foundText s g ≡ [] → textOf x ≡ []
-no-text s x f {g} h e k = sym (gives-string s x f h) ∙ ap (foundText s) e ∙ k
-
-module _ (s run : List ℕ) (f : Found) (told : (r : Records) → s ≡ encode r → goodRecords r word 6 ≡ true → Gives s (resolve r (underscoredIf true run)) f) where
+module _ (s run : List ℕ) (f : Found) (told : (r : Records) → s ≡ encode r → goodRecords r word 6 ≡ true → Gives s (resolve r (underscoredIf true run)) f) (i : IsSheet s) where
   -- What it gives for the sheet's records.
-  pub gives-run : (i : IsSheet s) → Gives s (resolve (i .r) (underscored run)) f
+  gives-run : Gives s (resolve (i .r) (underscored run)) f
   unfolding underscoredIf
-  gives-run i = told (i .r) (i .bytes) (i .good)
+  gives-run = told (i .r) (i .bytes) (i .good)
 
-  pub reference-text : {room p : ℕ} {b c : List ℕ} {q x y : ℕ} → f ≡ Text x y → Put room b p (take (y - x) (drop x s)) c q → (i : IsSheet s) → Put room b p (resolveString (i .r) (underscored run)) c q
+  pub places-text : {x y : ℕ} → f ≡ Text x y → Places s (resolveString (i .r) (underscored run)) x y
   unfolding resolveString
-  reference-text {room} {p} {b} {c} {q} e u i = rw (text-places (gives-run i) e .text) at u
+  places-text e = text-places _ gives-run e
 
-  pub reference-none : {room p : ℕ} {b : List ℕ} {g : Found} → f ≡ g → foundText s g ≡ [] → (i : IsSheet s) → Put room b p (resolveString (i .r) (underscored run)) b p
+  pub places-none : {g : Found} → f ≡ g → foundText s g ≡ [] → Places s (resolveString (i .r) (underscored run)) 0 0
   unfolding resolveString
-  reference-none {room} {p} {b} e k i = rw (no-text s _ f (gives-run i) e k) (put-none room b p)
+  places-none {g} e k = record { on = omega arith; inside = omega arith; text = sym (sym (gives-string s _ f gives-run) ∙ ap (foundText s) e ∙ k) }
 
 -- EXPRESSIONS. A round of one, by what the scans said.
 module _ (look : List ℕ → List ℕ) (t : List ℕ) (i : ℕ) (l : Spans lineBlank t 0 i) where
@@ -190,59 +182,59 @@ module _ (look : List ℕ → List ℕ) (t : List ℕ) (i j : ℕ) (l : Spans li
   plus-stop a q = rw (l .rest, q .says) refl
 
 -- The ways through a round.
-module _ (look : List ℕ → List ℕ) {room : ℕ} {t : List ℕ} {i : ℕ} (l : Spans lineBlank t 0 i) {f : Bool} (q : Sees (the "\"") t i f) {b : List ℕ} {p : ℕ} where
-  pub term-literal : {c : List ℕ} {k r : ℕ} → f ≡ true → Wrote room (literal (take (length t - (i + 1)) (drop (i + 1) t))) (take (length t - (i + 1)) (drop (i + 1) t)) b p c k r → IsTerm look room true t b p c (i + 1 + k) r
+module _ (look : List ℕ → List ℕ) {room : ℕ} {o t : List ℕ} {i : ℕ} (l : Spans lineBlank t 0 i) {f : Bool} (q : Sees (the "\"") t i f) {b : List ℕ} {a : Progress} where
+  pub term-literal : {c : List ℕ} {k : ℕ} {r : Progress} → f ≡ true → Took room o (literal (take (length t - (i + 1)) (drop (i + 1) t))) (take (length t - (i + 1)) (drop (i + 1) t)) b a c k r → IsTerm look room o true t b a c (i + 1 + k) r
   term-literal {c} {k} {r} e w =
       let h : i < length t = q .there e in
-      let v : Wrote room (literal (drop (i + 1) t)) (drop (i + 1) t) b p c k r = rw tail-part at w in
+      let v : Took room o (literal (drop (i + 1) t)) (drop (i + 1) t) b a c k r = rw tail-part at w in
       let z : literal (drop (i + 1) t) .1 ≡ drop (i + 1 + k) t = v .rest ∙ drop-drop k (i + 1) t in
       record {
         inside = omega (arith, simp length-drop at (v .inside));
         text = literal (drop (i + 1) t) .0;
-        put = v .put;
-        goes = λ u a. round-literal look t i l (i + 1 + k) a (seen q e) z;
-        stops = λ u a. absurd (true≢false u);
+        adds = v .adds;
+        goes = λ u y. round-literal look t i l (i + 1 + k) y (seen q e) z;
+        stops = λ u y. absurd (true≢false u);
       }
 
   module _ {g : Bool} (e : f ≡ false) (n : Sees (either "_" letter) t i g) where
-    pub term-reference : {c : List ℕ} {k r : ℕ} → g ≡ true → Spans runByte t i k → Put room b p (look (underscored (take (k - i) (drop i t)))) c r → IsTerm look room true t b p c k r
-    term-reference {c} {k} {r} d m u = record {
+    pub term-reference : {c : List ℕ} {k : ℕ} {r : Progress} {s : List ℕ} {x y : ℕ} → g ≡ true → Spans runByte t i k → Places s (look (underscored (take (k - i) (drop i t)))) x y → Adds room o b a (part s x y) c r → IsTerm look room o true t b a c k r
+    term-reference {c} {k} {r} d m h u = record {
       inside = m .inside;
       text = look (underscored (take (k - i) (drop i t)));
-      put = u;
-      goes = λ v a. round-reference look t i l k a (seen q e) (seen n d) m;
-      stops = λ v a. absurd (true≢false v);
+      adds = rw (h .text) at u;
+      goes = λ v z. round-reference look t i l k z (seen q e) (seen n d) m;
+      stops = λ v z. absurd (true≢false v);
     }
 
-    pub term-stop : g ≡ false → IsTerm look room false t b p b i p
-    term-stop d = record {
+    pub term-stop : Writer room (a .next) → g ≡ false → IsTerm look room o false t b a b i a
+    term-stop w d = record {
       inside = l .inside;
       text = [];
-      put = put-none room b p;
-      goes = λ v a. absurd (true≢false (sym v));
-      stops = λ v a. rw append-nil (round-stop look t i l a (seen q e) (seen n d));
+      adds = adds-none w o b;
+      goes = λ v z. absurd (true≢false (sym v));
+      stops = λ v z. rw append-nil (round-stop look t i l z (seen q e) (seen n d));
     }
 
 -- An expression is read up to i.
-pub record ExpressionAt (look : List ℕ → List ℕ) (room : ℕ) (t b : List ℕ) (p : ℕ) (c : List ℕ) (q i : ℕ) : Type 0 where
+pub record ExpressionAt (look : List ℕ → List ℕ) (room : ℕ) (o t b : List ℕ) (a : Progress) (c : List ℕ) (z : Progress) (i : ℕ) : Type 0 where
   pub inside : i ≤ length t
   pub text : List ℕ
-  pub put : Put room b p text c q
+  pub adds : Adds room o b a text c z
   pub left : expression look t ≡ rounds (expressionRound look) (λ a. a) text (drop i t)
 
-pub expression-start : (look : List ℕ → List ℕ) (room : ℕ) (t b : List ℕ) (p : ℕ) → ExpressionAt look room t b p b p 0
+pub expression-start : (look : List ℕ → List ℕ) {room : ℕ} {a : Progress} → Writer room (a .next) → (o t b : List ℕ) → ExpressionAt look room o t b a b a 0
 unfolding expression
-expression-start look room t b p = record { inside = omega arith; text = []; put = put-none room b p; left = refl }
+expression-start look w o t b = record { inside = omega arith; text = []; adds = adds-none w o b; left = refl }
 
-module _ {look : List ℕ → List ℕ} {room : ℕ} {t b : List ℕ} {p : ℕ} (w : Writer room p) (l : length b ≤ room) {c : List ℕ} {q i : ℕ} (x : ExpressionAt look room t b p c q i) where
-  expression-done : {k : ℕ} {d : List ℕ} {r : ℕ} (v : List ℕ) → k ≤ length t → Put room c q v d r → expressionRound look (x .text) (drop i t) ≡ (stop (x .text ++ v), drop k t) → Wrote room (expression look t) t b p d k r
+module _ {look : List ℕ → List ℕ} {room : ℕ} {o t b : List ℕ} {a : Progress} (l : length b ≤ room) {c : List ℕ} {z : Progress} {i : ℕ} (x : ExpressionAt look room o t b a c z i) where
+  expression-done : {k : ℕ} {d : List ℕ} {r : Progress} (v : List ℕ) → k ≤ length t → Adds room o c z v d r → expressionRound look (x .text) (drop i t) ≡ (stop (x .text ++ v), drop k t) → Took room o (expression look t) t b a d k r
   expression-done v h u e =
-      let z = x .left ∙ rounds-stop (expressionRound look) (λ a. a) (expression-moving look) (x .text) _ (drop i t) (ap (λ y. y .0) e) ∙ ap (λ y. (x .text ++ v, y .1)) e in
-      record { inside = h; rest = ap (λ y. y .1) z; put = rw z (put-then (x .put) l (w .place) u) }
+      let w = x .left ∙ rounds-stop (expressionRound look) (λ a. a) (expression-moving look) (x .text) _ (drop i t) (ap (λ y. y .0) e) ∙ ap (λ y. (x .text ++ v, y .1)) e in
+      record { inside = h; rest = ap (λ y. y .1) w; adds = rw w (adds-then l (x .adds) u) }
 
   -- A term of k bytes of the text from i on.
-  module _ {f : Bool} {d : List ℕ} {k r : ℕ} (M : IsTerm look room f (take (length t - i) (drop i t)) c q d k r) where
-    here : IsTerm look room f (drop i t) c q d k r
+  module _ {f : Bool} {d : List ℕ} {k : ℕ} {r : Progress} (M : IsTerm look room o f (take (length t - i) (drop i t)) c z d k r) where
+    here : IsTerm look room o f (drop i t) c z d k r
     here = rw tail-part at M
 
     pub term-inside : i + k ≤ length t
@@ -251,20 +243,30 @@ module _ {look : List ℕ → List ℕ} {room : ℕ} {t b : List ℕ} {p : ℕ} 
     goes : f ≡ true → expressionRound look (x .text) (drop i t) ≡ plus look (x .text ++ here .text) (drop (i + k) t)
     goes e = here .goes e (x .text) ∙ ap (plus look (x .text ++ here .text)) (drop-drop k i t)
 
-    pub expression-none : f ≡ false → Wrote room (expression look t) t b p d (i + k) r
-    expression-none e = expression-done (here .text) term-inside (here .put) (here .stops e (x .text) ∙ ap (λ z. (stop (x .text ++ here .text), z)) (drop-drop k i t))
+    pub expression-none : f ≡ false → Took room o (expression look t) t b a d (i + k) r
+    expression-none e = expression-done (here .text) term-inside (here .adds) (here .stops e (x .text) ∙ ap (λ z. (stop (x .text ++ here .text), z)) (drop-drop k i t))
 
     module _ {j : ℕ} (e : f ≡ true) (n : Spans lineBlank t (i + k) j) where
-      pub expression-last : Sees (the "+") t j false → Wrote room (expression look t) t b p d j r
-      expression-last o = expression-done (here .text) (n .inside) (here .put) (goes e ∙ plus-stop look t (i + k) j n _ o)
+      pub expression-last : Sees (the "+") t j false → Took room o (expression look t) t b a d j r
+      expression-last v = expression-done (here .text) (n .inside) (here .adds) (goes e ∙ plus-stop look t (i + k) j n _ v)
 
-      pub expression-again : Sees (the "+") t j true → ExpressionAt look room t b p d r (j + 1)
-      expression-again o =
-          let g = goes e ∙ plus-again look t (i + k) j n _ o in
-          let z = rounds-again (expressionRound look) (λ a. a) (expression-moving look) (x .text) _ (drop i t) (ap (λ y. y .0) g) in
+      pub expression-again : Sees (the "+") t j true → ExpressionAt look room o t b a d r (j + 1)
+      expression-again v =
+          let g = goes e ∙ plus-again look t (i + k) j n _ v in
+          let w = rounds-again (expressionRound look) (λ a. a) (expression-moving look) (x .text) _ (drop i t) (ap (λ y. y .0) g) in
           record {
-            inside = omega (arith, o .there refl);
+            inside = omega (arith, v .there refl);
             text = x .text ++ here .text;
-            put = put-then (x .put) l (w .place) (here .put);
-            left = x .left ∙ z ∙ ap (λ y. rounds (expressionRound look) (λ a. a) (x .text ++ here .text) (y .1)) g;
+            adds = adds-then l (x .adds) (here .adds);
+            left = x .left ∙ w ∙ ap (λ y. rounds (expressionRound look) (λ a. a) (x .text ++ here .text) (y .1)) g;
           }
+
+-- A text that begins at a writer's place.
+module _ {p : ℕ} {a : Progress} (e : a ≡ beginning p) where
+  pub began : {room : ℕ} → Writer room p → Writer room (a .next)
+  unfolding beginning
+  began w = rw e w
+
+  pub wrote : {room : ℕ} {o : List ℕ} {v : List ℕ × List ℕ} {t b c : List ℕ} {k : ℕ} {z : Progress} → Took room o v t b a c k z → Wrote room v t b p c k (z .next)
+  unfolding beginning
+  wrote w = record { inside = w .inside; rest = w .rest; put = rw e at (w .adds .put) }

@@ -1,3 +1,4 @@
+pub mod Progress
 pub mod Read
 pub mod Laws
 pub mod Paths

@@ -16,7 +16,7 @@ pub record PathIn (p path : List ℕ) (n : ℕ) : Type 0 where
 pub path-in : {t b path : List ℕ} {n : ℕ} {w : List ℕ × List ℕ} {k : ℕ} → length b ≡ 256 → Wrote 256 w t b 0 path k n → PathIn (w .0) path n
 path-in {t} {b} {path} {n} {w} {k} l r = record {
   fits = λ h.
-      let f : n ≡ length (w .0) = omega (arith, put-fits (r .put) (omega arith) h) in
+      let f : n ≡ length (w .0) = omega (arith, put-fits (r .put) h) in
       ap (take n) (r .put .stored) ∙ ap (λ z. take z (sets b 0 (w .0))) f ∙ stored-first b (w .0) (omega arith);
-  long = λ h. omega (arith, put-not (r .put) (omega arith) h);
+  long = λ h. omega (arith, put-not (r .put) h);
 }

@@ -6,7 +6,14 @@ use Prim.Native.Nat.{ℕ, _≤_}
 use lib.ListN.{length, drop}
 use Rattle.rules.specs.Reader.{stop}
 use Rattle.rules.specs.Strings.{plus, expressionRound}
+use Rattle.scan.specs.Sets.{part}
 use Rattle.buffers.specs.Put.{Put}
+use Rattle.strings.specs.declared.progress.Progress.{Progress}
+use Rattle.strings.specs.Progress.{Adds}
+
+-- A text that begins at p, and is not compared with another.
+unfoldable pub beginning : ℕ → Progress
+beginning p = record { next = p; kept = p; met = 1 }
 
 -- v: what a reader made of t, and its rest. k bytes are read, and the text is put at p.
 pub record Wrote (room : ℕ) (v : List ℕ × List ℕ) (t b : List ℕ) (p : ℕ) (c : List ℕ) (k q : ℕ) : Type 0 where
@@ -14,10 +21,22 @@ pub record Wrote (room : ℕ) (v : List ℕ × List ℕ) (t b : List ℕ) (p : �
   pub rest : v .1 ≡ drop k t
   pub put : Put room b p (v .0) c q
 
--- A round of an expression up to its `+`. Found: a text is put and reading goes on behind k bytes; else the round stops there.
-pub record IsTerm (look : List ℕ → List ℕ) (room : ℕ) (found : Bool) (t b : List ℕ) (p : ℕ) (c : List ℕ) (k q : ℕ) : Type 0 where
+-- The same, and the text is added to what has come; it is compared with o.
+pub record Took (room : ℕ) (o : List ℕ) (v : List ℕ × List ℕ) (t b : List ℕ) (a : Progress) (c : List ℕ) (k : ℕ) (z : Progress) : Type 0 where
+  pub inside : k ≤ length t
+  pub rest : v .1 ≡ drop k t
+  pub adds : Adds room o b a (v .0) c z
+
+-- A round of an expression up to its `+`. Found: a text is added and reading goes on behind k bytes; else the round stops there.
+pub record IsTerm (look : List ℕ → List ℕ) (room : ℕ) (o : List ℕ) (found : Bool) (t b : List ℕ) (a : Progress) (c : List ℕ) (k : ℕ) (z : Progress) : Type 0 where
   pub inside : k ≤ length t
   pub text : List ℕ
-  pub put : Put room b p text c q
-  pub goes : found ≡ true → (a : List ℕ) → expressionRound look a t ≡ plus look (a ++ text) (drop k t)
-  pub stops : found ≡ false → (a : List ℕ) → expressionRound look a t ≡ (stop (a ++ text), drop k t)
+  pub adds : Adds room o b a text c z
+  pub goes : found ≡ true → (v : List ℕ) → expressionRound look v t ≡ plus look (v ++ text) (drop k t)
+  pub stops : found ≡ false → (v : List ℕ) → expressionRound look v t ≡ (stop (v ++ text), drop k t)
+
+-- The text v lies in the sheet s, from x to y.
+pub record Places (s v : List ℕ) (x y : ℕ) : Type 0 where
+  pub on : x ≤ y
+  pub inside : y ≤ length s
+  pub text : part s x y ≡ v

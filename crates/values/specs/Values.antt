@@ -19,7 +19,6 @@ use Rattle.rules.specs.Laws.Bool.{or-elim, or-false-l, or-false-r}
 use Rattle.scan.specs.Sets.{Skips}
 use Rattle.scan.specs.Laws.{tail-part}
 use Rattle.buffers.specs.Laws.{put-length, put-fits, put-not, stored-first}
-use Rattle.buffers.specs.Emits.{put-fill}
 use Rattle.strings.specs.Read.{Wrote}
 use Rattle.sheet.specs.Find.{IsSheet}
 use Rattle.binding.specs.Write.{IsSource, text-empty, text-full}
@@ -154,7 +153,7 @@ module _ (limit : ℕ) (t : List ℕ) (at : ℕ) (w : List ℕ) {room : ℕ} (e 
     too-long o = or-elim (ltb room q) (eqb limit 0) o (λ g. long (ltb-true room q g)) (λ g. some (eqb-true limit 0 g) (decLe (length said) 0))
       where
         long : room < q → limit < valueLength (text said)
-        long g = let n = put-not (W s .put) (omega arith) g in omega (arith, text-length said .1 (λ z. omega arith))
+        long g = let n = put-not (W s .put) g in omega (arith, text-length said .1 (λ z. omega arith))
 
         some : limit ≡ 0 → Dec (length said ≤ 0) → limit < valueLength (text said)
         some g (yes y) = omega (arith, text-length said .0 (omega arith))
@@ -165,12 +164,12 @@ module _ (limit : ℕ) (t : List ℕ) (at : ℕ) (w : List ℕ) {room : ℕ} (e 
       fits-in = ltb-false room q (or-false-l (ltb room q) (eqb limit 0) o)
 
       place : q ≡ length said
-      place = omega (arith, put-fits (W s .put) (omega arith) fits-in)
+      place = omega (arith, put-fits (W s .put) fits-in)
 
       stands : take q (c₀ ++ drop room w) ≡ said
       stands =
           take-append-le q c₀ (drop room w) (omega (arith, put-length (W s .put), first-long, fits-in))
-          ∙ put-fill (W s .put) (omega arith) fits-in .holds ∙ ap (λ x. take x (sets (take room w) 0 said)) place ∙ stored-first (take room w) said (omega (arith, first-long, place, fits-in))
+          ∙ ap (take q) (W s .put .stored) ∙ ap (λ x. take x (sets (take room w) 0 said)) place ∙ stored-first (take room w) said (omega (arith, first-long, place, fits-in))
 
       short : valueLength (text said) ≤ limit
       short = go (decLe (length said) 0)

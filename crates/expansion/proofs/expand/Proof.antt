@@ -17,13 +17,13 @@ use Rattle.buffers.specs.Laws.{put-length}
 use Rattle.expansion.specs.Run.{Expanding, expanding-start, expanding-full, expanding-end, hash, expanding-refused, expanding-on}
 
 abbrev Inv-loop : tie.InvT-loop
-Inv-loop b text out₀ p left₀ n limit full room done₀ q₀ len₀ whole₀ out left done q len whole = Expanding limit full (view (entriesOf b)) text out₀ p left₀ n out left done q len whole
+Inv-loop b text out₀ room p left₀ n limit full done₀ q₀ len₀ whole₀ out left done q len whole = Expanding limit full room (view (entriesOf b)) text out₀ p left₀ n out left done q len whole
 
 abbrev μ-loop : tie.MeasureT-loop
-μ-loop b text out₀ p left₀ n limit full room done₀ q₀ len₀ whole₀ out left done q len whole = length text - done
+μ-loop b text out₀ room p left₀ n limit full done₀ q₀ len₀ whole₀ out left done q len whole = length text - done
 
 loop-holds : tie.Need-loop-holds Inv-loop μ-loop
-loop-holds c = expanding-start _ _ _ _ _ _ (c .before .before .before .before .pre .2) (c .before .before .before .before .pre .3)
+loop-holds c = expanding-start _ _ _ _ _ _ _ (c .before .before .before .before .pre .2 .place) (c .before .before .before .before .pre .3)
 
 find-requires : tie.Need-find-requires Inv-loop μ-loop
 find-requires c κs = c .loop .inv .inside
@@ -38,7 +38,7 @@ part-put-end : tie.Need-part-put-end Inv-loop μ-loop
 part-put-end c = search needs
 
 put-requires : tie.Need-put-requires Inv-loop μ-loop
-put-requires c κs = record { place = omega (arith, c .before .before .before .loop .inv .place); fits = search needs }
+put-requires c κs = record { place = omega (arith, c .before .before .before .loop .inv .place); fits = c .before .before .before .before .before .before .before .before .pre .2 .fits }
 
 same-length : tie.Need-same-length Inv-loop μ-loop
 same-length c = put-length (c .before .before .before .put .ensures) ∙ c .before .before .before .before .before .before .before .loop .inv .size
@@ -47,7 +47,7 @@ same-length-2 : tie.Need-same-length-2 Inv-loop μ-loop
 same-length-2 c = c .before .before .before .before .before .before .before .loop .inv .left-size
 
 returns : tie.Need-returns Inv-loop μ-loop
-returns c = expanding-full _ _ _ _ _ _ (c .before .before .before .before .before .before .before .loop .inv) (c .before .before .before .before .before .before .find .ensures) (c .before .before .before .put .ensures) (search needs)
+returns c = expanding-full _ _ _ _ _ _ _ (c .before .before .before .before .before .before .before .loop .inv) (c .before .before .before .before .before .before .find .ensures) (c .before .before .before .put .ensures) (search needs)
 
 same-length-3 : tie.Need-same-length-3 Inv-loop μ-loop
 same-length-3 c = put-length (c .before .before .before .before .put .ensures) ∙ c .before .before .before .before .before .before .before .before .loop .inv .size
@@ -56,10 +56,10 @@ same-length-4 : tie.Need-same-length-4 Inv-loop μ-loop
 same-length-4 c = c .before .before .before .before .before .before .before .before .loop .inv .left-size
 
 returns-2 : tie.Need-returns-2 Inv-loop μ-loop
-returns-2 c = expanding-end _ _ _ _ _ _ (c .before .before .before .before .before .before .before .before .loop .inv) (c .before .before .before .before .before .before .before .find .ensures) (c .before .before .before .before .put .ensures) (search needs) (search needs)
+returns-2 c = expanding-end _ _ _ _ _ _ _ (c .before .before .before .before .before .before .before .before .loop .inv) (c .before .before .before .before .before .before .before .find .ensures) (c .before .before .before .before .put .ensures) (search needs) (search needs)
 
 step-requires : tie.Need-step-requires Inv-loop μ-loop
-step-requires c κs = (c .before .before .before .before .before .before .before .before .before .before .before .before .before .before .before .pre .0, c .before .before .before .before .before .before .before .before .before .before .before .before .before .before .before .pre .1, hash _ _ _ _ _ _ (c .before .before .before .before .before .before .before .before .before .before .loop .inv) (c .before .before .before .before .before .before .before .before .before .find .ensures) (c .before .before .before .before .before .before .put .ensures) (search needs) (search needs), omega (arith, put-length (c .before .before .before .before .before .before .put .ensures), c .before .before .before .before .before .before .before .before .before .before .loop .inv .size, c .before .before .before .if1 .left), c .before .before .before .before .before .before .before .before .before .before .loop .inv .keeps)
+step-requires c κs = (c .before .before .before .before .before .before .before .before .before .before .before .before .before .before .before .pre .0, c .before .before .before .before .before .before .before .before .before .before .before .before .before .before .before .pre .1, hash _ _ _ _ _ _ _ (c .before .before .before .before .before .before .before .before .before .before .loop .inv) (c .before .before .before .before .before .before .before .before .before .find .ensures) (c .before .before .before .before .before .before .put .ensures) (search needs) (search needs), record { place = search needs; buffer = omega (arith, put-length (c .before .before .before .before .before .before .put .ensures), c .before .before .before .before .before .before .before .before .before .before .loop .inv .size, c .before .before .before .before .before .before .before .before .before .before .before .before .before .before .before .pre .2 .buffer); fits = c .before .before .before .before .before .before .before .before .before .before .before .before .before .before .before .pre .2 .fits }, c .before .before .before .before .before .before .before .before .before .before .loop .inv .keeps)
 
 same-length-5 : tie.Need-same-length-5 Inv-loop μ-loop
 same-length-5 c = c .before .before .before .before .before .before .step .ensures .size ∙ put-length (c .before .before .before .before .before .before .before .before .before .before .before .before .before .put .ensures) ∙ c .before .before .before .before .before .before .before .before .before .before .before .before .before .before .before .before .before .loop .inv .size
@@ -68,17 +68,13 @@ same-length-6 : tie.Need-same-length-6 Inv-loop μ-loop
 same-length-6 c = c .before .before .before .before .before .before .step .ensures .left-size ∙ c .before .before .before .before .before .before .before .before .before .before .before .before .before .before .before .before .before .loop .inv .left-size
 
 returns-3 : tie.Need-returns-3 Inv-loop μ-loop
-returns-3 c = expanding-refused _ _ _ _ _ _ (c .before .before .before .before .before .before .before .before .before .before .before .before .before .before .before .before .before .loop .inv) (c .before .before .before .before .before .before .before .before .before .before .before .before .before .before .before .before .find .ensures) (c .before .before .before .before .before .before .before .before .before .before .before .before .before .put .ensures) (search needs) (search needs) (c .before .before .before .before .before .before .step .ensures) (not-true _ (c .if3 .taken))
+returns-3 c = expanding-refused _ _ _ _ _ _ _ (c .before .before .before .before .before .before .before .before .before .before .before .before .before .before .before .before .before .loop .inv) (c .before .before .before .before .before .before .before .before .before .before .before .before .before .before .before .before .find .ensures) (c .before .before .before .before .before .before .before .before .before .before .before .before .before .put .ensures) (search needs) (search needs) (c .before .before .before .before .before .before .step .ensures) (not-true _ (c .if3 .taken))
 
 loop-less : tie.Need-loop-less Inv-loop μ-loop
-loop-less c =
-    let n = c .before .before .before .before .before .before .before .before .before .before .before .before .before .before .before .before .before .find .ensures .on in
-    let o = c .before .before .before .before .before .before .before .step .ensures .on in
-    let i = c .before .before .before .before .before .before .before .step .ensures .inside in
-    search needs
+loop-less c = let n = c .before .before .before .before .before .before .before .before .before .before .before .before .before .before .before .before .before .find .ensures .on in let o = c .before .before .before .before .before .before .before .step .ensures .on in let i = c .before .before .before .before .before .before .before .step .ensures .inside in search needs
 
 loop-again : tie.Need-loop-again Inv-loop μ-loop
-loop-again c = expanding-on _ _ _ _ _ _ (c .before .before .before .before .before .before .before .before .before .before .before .before .before .before .before .before .before .before .loop .inv) (c .before .before .before .before .before .before .before .before .before .before .before .before .before .before .before .before .before .find .ensures) (c .before .before .before .before .before .before .before .before .before .before .before .before .before .before .put .ensures) (search needs) (search needs) (c .before .before .before .before .before .before .before .step .ensures) (not-false _ (c .before .if3 .left))
+loop-again c = expanding-on _ _ _ _ _ _ _ (c .before .before .before .before .before .before .before .before .before .before .before .before .before .before .before .before .before .before .loop .inv) (c .before .before .before .before .before .before .before .before .before .before .before .before .before .before .before .before .before .find .ensures) (c .before .before .before .before .before .before .before .before .before .before .before .before .before .before .put .ensures) (search needs) (search needs) (c .before .before .before .before .before .before .before .step .ensures) (not-false _ (c .before .if3 .left))
 
 pub expand-spec : {M : Type 1} → statement M
 expand-spec =

@@ -3,14 +3,14 @@ use Rattle.link_call.proofs.link.Statement.{statement}
 use Rattle.link_call.proofs.link.Tie as tie
 use Rattle.link_call.proofs.link.Reads as reads
 use Rattle.link_call.proofs.link.Lts as lts
+use Rattle.calls.proofs.measure.expression.Reads as expression-reads
 use Rattle.link_call.proofs.call_end.Reads as call-end-reads
 use Rattle.link_call.proofs.put_link.Reads as put-link-reads
 use Rattle.scan.proofs.at.Reads as at-reads
 use Rattle.scan.proofs.span.Reads as span-reads
-use Rattle.strings.proofs.expression.Reads as expression-reads
 use native.Mathlib.Omega.{arith}
 use lib.ListN.{length-take, length-drop}
-use Rattle.buffers.specs.Laws.{put-ended, put-length}
+use Rattle.buffers.specs.Laws.{put-length}
 use Rattle.link_call.specs.Link.{link-back, link-put}
 
 span-requires : tie.Need-span-requires
@@ -32,13 +32,13 @@ part-expression-end : tie.Need-part-expression-end
 part-expression-end c = search needs
 
 expression-requires : tie.Need-expression-requires
-expression-requires c κs = search needs
+expression-requires c κs = (c .before .before .before .before .before .before .before .pre .1 .fits, c .before .before .before .before .before .before .before .pre .3)
 
 add-call-end : tie.Need-add-call-end
-add-call-end c = omega (arith, simp (length-take, length-drop) at (c .before .before .before .expression .ensures (c .before .before .before .before .before .before .before .before .before .before .before .before .pre .2) .inside))
+add-call-end c = omega (arith, simp (length-take, length-drop) at (c .before .expression .ensures (c .before .before .before .before .before .before .before .before .before .pre .3) .inside))
 
 call-end-requires : tie.Need-call-end-requires
-call-end-requires c κs = omega (arith, simp (length-take, length-drop) at (c .before .before .before .expression .ensures (c .before .before .before .before .before .before .before .before .before .before .before .before .pre .2) .inside))
+call-end-requires c κs = omega (arith, simp (length-take, length-drop) at (c .before .expression .ensures (c .before .before .before .before .before .before .before .before .before .pre .3) .inside))
 
 sub-put-link : tie.Need-sub-put-link
 sub-put-link c = search needs
@@ -49,17 +49,23 @@ part-put-link-start c = search needs
 part-put-link-end : tie.Need-part-put-link-end
 part-put-link-end c = search needs
 
+sub-put-link-2 : tie.Need-sub-put-link-2
+sub-put-link-2 c = search needs
+
+part-put-link-start-2 : tie.Need-part-put-link-start-2
+part-put-link-start-2 c = search needs
+
+part-put-link-end-2 : tie.Need-part-put-link-end-2
+part-put-link-end-2 c = search needs
+
 put-link-requires : tie.Need-put-link-requires
-put-link-requires c κs =
-    let e = put-ended (c .before .before .before .before .before .before .expression .ensures (c .before .before .before .before .before .before .before .before .before .before .before .before .before .before .before .pre .2) .put) (search needs) in
-    let l = put-length (c .before .before .before .before .before .before .expression .ensures (c .before .before .before .before .before .before .before .before .before .before .before .before .before .before .before .pre .2) .put) in
-    search needs
+put-link-requires c κs = (c .before .before .before .before .before .before .before .before .before .before .before .before .before .before .pre .1, c .before .before .before .before .before .before .before .before .before .before .before .before .before .before .pre .2, c .before .before .before .before .before .before .before .before .before .before .before .before .before .before .pre .3, λ s. c .before .before .before .before .before .before .expression .ensures s .size .len)
 
 same-length : tie.Need-same-length
-same-length c = search needs
+same-length c = put-length (c .before .before .put-link .ensures (c .before .before .before .before .before .before .before .before .before .before .before .before .before .before .before .before .before .pre .3))
 
 returns-2 : tie.Need-returns-2
-returns-2 c = λ s. link-put _ (c .before .before .before .before .before .before .before .before .before .before .before .before .before .before .span .ensures) (c .before .before .before .before .before .before .before .before .before .before .before .before .before .at .ensures) (c .before .before .before .before .before .before .before .before .before .before .before .before .if1 .left) (c .before .before .before .before .before .before .before .before .before .before .before .before .before .before .before .before .before .before .pre .1) (c .before .before .before .before .before .before .before .before .before .expression .ensures s) (c .before .before .before .before .before .call-end .ensures) (c .before .before .put-link .ensures)
+returns-2 c = λ s. link-put _ (c .before .before .before .before .before .before .before .before .before .before .before .before .before .span .ensures) (c .before .before .before .before .before .before .before .before .before .before .before .before .at .ensures) (c .before .before .before .before .before .before .before .before .before .before .before .if1 .left) (c .before .before .before .before .before .before .before .before .before .expression .ensures s) (c .before .before .before .before .before .before .before .call-end .ensures) (c .before .before .put-link .ensures s)
 
 pub link-spec : {M : Type 1} → statement M
 link-spec =
@@ -77,6 +83,9 @@ link-spec =
     sub-put-link
     part-put-link-start
     part-put-link-end
+    sub-put-link-2
+    part-put-link-start-2
+    part-put-link-end-2
     put-link-requires
     same-length
     returns-2)

@@ -3,67 +3,71 @@ use Rattle.link_call.proofs.put_link.Statement.{statement}
 use Rattle.link_call.proofs.put_link.Tie as tie
 use Rattle.link_call.proofs.put_link.Reads as reads
 use Rattle.link_call.proofs.put_link.Lts as lts
-use Rattle.scan.proofs.same.Reads as same-reads
-use Rattle.link_call.proofs.put_content_block.Reads as put-content-block-reads
-use Rattle.link_call.specs.Link.{linked-empty, linked-over, linked-same, linked-short, linked-with-block}
+use Rattle.buffers.proofs.put.Reads as put-reads
+use Rattle.link_call.proofs.address_alone.Reads as address-alone-reads
+use Rattle.strings.proofs.expression.Reads as expression-reads
+use mathlib.Core.Path.{_∙_}
+use native.Mathlib.Omega.{arith}
+use Rattle.buffers.specs.Laws.{put-length, put-writer}
+use Rattle.link_call.specs.Link.{link-alone, link-block}
 
-returns : tie.Need-returns
-returns c = linked-empty _ _ _ _ (c .if1 .taken)
+address-alone-requires : tie.Need-address-alone-requires
+address-alone-requires c κs = (c .before .before .before .before .pre .2, c .before .before .before .before .pre .3)
 
-returns-2 : tie.Need-returns-2
-returns-2 c = linked-over _ _ _ _ (c .if2 .taken)
-
-sub-same : tie.Need-sub-same
-sub-same c = search needs
-
-part-same-start : tie.Need-part-same-start
-part-same-start c = search needs
-
-part-same-end : tie.Need-part-same-end
-part-same-end c = search needs
-
-same-requires : tie.Need-same-requires
-same-requires c κs = search needs
+expression-requires : tie.Need-expression-requires
+expression-requires c κs = (c .before .before .before .before .before .before .before .pre .0, c .before .before .before .before .before .before .before .pre .1, c .before .before .before .before .before .before .before .pre .2)
 
 same-length : tie.Need-same-length
-same-length c = search needs
+same-length c = put-length (c .before .before .expression .ensures (c .before .before .before .before .before .before .before .before .before .before .pre .2) .put)
 
-returns-3 : tie.Need-returns-3
-returns-3 c = linked-same _ _ _ _ (c .before .before .before .before .if2 .left) (c .before .same .ensures) (c .if3 .taken)
+returns : tie.Need-returns
+returns c = λ s. link-alone _ _ (c .before .before .before .before .before .address-alone .ensures s) (c .before .before .before .before .if1 .taken) (c .before .before .expression .ensures s .put)
 
-add-result : tie.Need-add-result
-add-result c = search needs
+slice-aggregate-put : tie.Need-slice-aggregate-put
+slice-aggregate-put c = search needs
+
+put-requires : tie.Need-put-requires
+put-requires c κs = c .before .before .before .before .before .before .before .before .pre .0
+
+expression-requires-2 : tie.Need-expression-requires-2
+expression-requires-2 c κs = (put-writer (c .before .before .before .put .ensures) (c .before .before .before .before .before .before .before .before .before .before .before .before .pre .0), omega (arith, put-length (c .before .before .before .put .ensures), c .before .before .before .before .before .before .before .before .before .before .before .before .pre .1), c .before .before .before .before .before .before .before .before .before .before .before .before .pre .2)
+
+slice-aggregate-put-2 : tie.Need-slice-aggregate-put-2
+slice-aggregate-put-2 c = search needs
+
+put-requires-2 : tie.Need-put-requires-2
+put-requires-2 c κs = put-writer (c .before .before .before .before .expression2 .ensures (c .before .before .before .before .before .before .before .before .before .before .before .before .before .before .before .before .before .pre .2) .put) (put-writer (c .before .before .before .before .before .before .before .before .put .ensures) (c .before .before .before .before .before .before .before .before .before .before .before .before .before .before .before .before .before .pre .0))
+
+put-requires-3 : tie.Need-put-requires-3
+put-requires-3 c κs = put-writer (c .before .before .before .put2 .ensures) (put-writer (c .before .before .before .before .before .before .before .before .expression2 .ensures (c .before .before .before .before .before .before .before .before .before .before .before .before .before .before .before .before .before .before .before .before .before .pre .2) .put) (put-writer (c .before .before .before .before .before .before .before .before .before .before .before .before .put .ensures) (c .before .before .before .before .before .before .before .before .before .before .before .before .before .before .before .before .before .before .before .before .before .pre .0)))
+
+slice-aggregate-put-3 : tie.Need-slice-aggregate-put-3
+slice-aggregate-put-3 c = search needs
+
+put-requires-4 : tie.Need-put-requires-4
+put-requires-4 c κs = put-writer (c .before .before .before .before .put3 .ensures) (put-writer (c .before .before .before .before .before .before .before .before .put2 .ensures) (put-writer (c .before .before .before .before .before .before .before .before .before .before .before .before .before .expression2 .ensures (c .before .before .before .before .before .before .before .before .before .before .before .before .before .before .before .before .before .before .before .before .before .before .before .before .before .before .pre .2) .put) (put-writer (c .before .before .before .before .before .before .before .before .before .before .before .before .before .before .before .before .before .put .ensures) (c .before .before .before .before .before .before .before .before .before .before .before .before .before .before .before .before .before .before .before .before .before .before .before .before .before .before .pre .0))))
 
 same-length-2 : tie.Need-same-length-2
-same-length-2 c = search needs
+same-length-2 c = put-length (c .before .before .put4 .ensures) ∙ put-length (c .before .before .before .before .before .before .before .put3 .ensures) ∙ put-length (c .before .before .before .before .before .before .before .before .before .before .before .put2 .ensures) ∙ put-length (c .before .before .before .before .before .before .before .before .before .before .before .before .before .before .before .before .expression2 .ensures (c .before .before .before .before .before .before .before .before .before .before .before .before .before .before .before .before .before .before .before .before .before .before .before .before .before .before .before .before .before .pre .2) .put) ∙ put-length (c .before .before .before .before .before .before .before .before .before .before .before .before .before .before .before .before .before .before .before .before .put .ensures)
 
-returns-4 : tie.Need-returns-4
-returns-4 c = linked-short _ _ _ _ (c .before .before .before .before .before .if2 .left) (c .before .before .same .ensures) (c .before .before .before .before .before .before .if1 .left) (c .before .if3 .left) (c .if4 .taken)
-
-put-content-block-requires : tie.Need-put-content-block-requires
-put-content-block-requires c κs = search needs
-
-same-length-3 : tie.Need-same-length-3
-same-length-3 c = search needs
-
-returns-5 : tie.Need-returns-5
-returns-5 c = linked-with-block _ _ _ _ (c .before .before .before .before .before .before .before .before .before .if2 .left) (c .before .before .before .before .before .before .same .ensures) (c .before .before .before .before .before .before .before .before .before .before .if1 .left) (c .before .before .before .before .before .if3 .left) (c .before .before .put-content-block .ensures)
+returns-2 : tie.Need-returns-2
+returns-2 c = λ s. link-block _ _ (c .before .before .before .before .before .before .before .before .before .before .before .before .before .before .before .before .before .before .before .before .before .before .before .before .address-alone .ensures s) (c .before .before .before .before .before .before .before .before .before .before .before .before .before .before .before .before .before .before .before .before .before .before .before .if1 .left) (c .before .before .before .before .before .before .before .before .before .before .before .before .before .before .before .before .before .before .before .before .before .before .before .before .before .before .before .before .before .pre .1) (c .before .before .before .before .before .before .before .before .before .before .before .before .before .before .before .before .before .before .before .before .put .ensures) (c .before .before .before .before .before .before .before .before .before .before .before .before .before .before .before .before .expression2 .ensures s .put) (c .before .before .before .before .before .before .before .before .before .before .before .put2 .ensures) (c .before .before .before .before .before .before .before .put3 .ensures) (c .before .before .put4 .ensures)
 
 pub put-link-spec : {M : Type 1} → statement M
 put-link-spec =
     tie.close
     (tie.spec
-    returns
-    returns-2
-    sub-same
-    part-same-start
-    part-same-end
-    same-requires
+    address-alone-requires
+    expression-requires
     same-length
-    returns-3
-    add-result
+    returns
+    slice-aggregate-put
+    put-requires
+    expression-requires-2
+    slice-aggregate-put-2
+    put-requires-2
+    put-requires-3
+    slice-aggregate-put-3
+    put-requires-4
     same-length-2
-    returns-4
-    put-content-block-requires
-    same-length-3
-    returns-5)
+    returns-2)

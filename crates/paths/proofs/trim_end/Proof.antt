@@ -4,21 +4,21 @@ use Rattle.paths.proofs.trim_end.Tie as tie
 use Rattle.paths.proofs.trim_end.Reads as reads
 use Rattle.paths.proofs.trim_end.Lts as lts
 use Rattle.scan.proofs.member.Reads as member-reads
-use Prim.Native.Nat.{_-_}
 use mathlib.Core.Path.{sym, _∙_}
-use mathlib.Core.Logic.{⊎-elim}
 use borrow.Author.Tests.{not-true, not-false}
-use lib.ListN.{length}
-use Rattle.paths.specs.Paths.{Trimming, trimming-start, trimming-blank, trimming-more, trimming-end}
+use Rattle.paths.specs.Paths.{Trimming, trimming-start, trimming-blank, trimming-stop, trimming-none}
 
 abbrev Inv-loop : tie.InvT-loop
-Inv-loop text end₀ i₀ end i = Trimming text i end
+Inv-loop text n₀ n = Trimming text n
 
 abbrev μ-loop : tie.MeasureT-loop
-μ-loop text end₀ i₀ end i = length text - i
+μ-loop text n₀ n = n
 
 loop-holds : tie.Need-loop-holds Inv-loop μ-loop
 loop-holds c = trimming-start _
+
+sub-member : tie.Need-sub-member Inv-loop μ-loop
+sub-member c = search needs
 
 shared-slice-read-member : tie.Need-shared-slice-read-member Inv-loop μ-loop
 shared-slice-read-member c = search needs
@@ -26,24 +26,20 @@ shared-slice-read-member c = search needs
 member-requires : tie.Need-member-requires Inv-loop μ-loop
 member-requires c κs = search needs
 
-add-end : tie.Need-add-end Inv-loop μ-loop
-add-end c = search needs
+returns : tie.Need-returns Inv-loop μ-loop
+returns c = trimming-stop (c .before .before .before .before .loop .inv) (search needs) (sym (c .before .member .ensures) ∙ not-true _ (c .if1 .taken))
 
-add-i : tie.Need-add-i Inv-loop μ-loop
-add-i c = search needs
+sub-n : tie.Need-sub-n Inv-loop μ-loop
+sub-n c = search needs
 
 loop-less : tie.Need-loop-less Inv-loop μ-loop
 loop-less c = search needs
 
 loop-again : tie.Need-loop-again Inv-loop μ-loop
-loop-again c =
-    ⊎-elim
-    (λ w. trimming-more (c .before .before .before .before .loop .inv) (search needs) (sym (c .before .member .ensures) ∙ not-true _ (w .0 .taken)) (w .1))
-    (λ w. trimming-blank (c .before .before .before .before .loop .inv) (search needs) (sym (c .before .member .ensures) ∙ not-false _ (w .0 .left)) (w .1))
-    (c .if1 .came)
+loop-again c = trimming-blank (c .before .before .before .before .loop .inv) (search needs) (sym (c .before .member .ensures) ∙ not-false _ (c .if1 .left))
 
-returns : tie.Need-returns Inv-loop μ-loop
-returns c = trimming-end (c .before .loop .inv) (search needs)
+returns-2 : tie.Need-returns-2 Inv-loop μ-loop
+returns-2 c = trimming-none (c .before .loop .inv) (search needs)
 
 pub trim-end-spec : {M : Type 1} → statement M
 trim-end-spec =
@@ -52,10 +48,11 @@ trim-end-spec =
     Inv-loop
     μ-loop
     loop-holds
+    sub-member
     shared-slice-read-member
     member-requires
-    add-end
-    add-i
+    returns
+    sub-n
     loop-less
     loop-again
-    returns)
+    returns-2)

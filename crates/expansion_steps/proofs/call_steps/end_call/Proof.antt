@@ -22,13 +22,13 @@ same-length : tie.Need-same-length
 same-length c = c .before .before .show .ensures .emits .size
 
 returns : tie.Need-returns
-returns c = ends-back _ _ _ _ _ _ _ (c .before .before .before .before .before .enum-told .given .1) (c .before .before .before .before .before .before .before .before .before .pre .1) (c .before .before .show .ensures)
+returns c = ends-back _ _ _ _ _ _ _ _ (c .before .before .before .before .before .enum-told .given .1) (c .before .before .before .before .before .before .before .before .before .pre .1) (c .before .before .show .ensures)
 
 returns-2 : tie.Need-returns-2
-returns-2 c = ends-refused _ _ _ _ _ _ _ (c .before .outcome .given .1)
+returns-2 c = ends-refused _ _ _ _ _ _ _ _ (c .before .outcome .given .1)
 
 returns-3 : tie.Need-returns-3
-returns-3 c = ends-output _ _ _ _ _ _ _ (c .before .outcome2 .given .1)
+returns-3 c = ends-output _ _ _ _ _ _ _ _ (c .before .outcome2 .given .1)
 
 pub end-call-spec : {M : Type 1} → statement M
 end-call-spec =

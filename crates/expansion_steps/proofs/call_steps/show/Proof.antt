@@ -4,7 +4,7 @@ use Rattle.expansion_steps.proofs.call_steps.show.Tie as tie
 use Rattle.expansion_steps.proofs.call_steps.show.Reads as reads
 use Rattle.expansion_steps.proofs.call_steps.show.Lts as lts
 use Rattle.buffers.proofs.put.Reads as put-reads
-use Rattle.expansion_steps.specs.Call.{shows}
+use Rattle.expansion_steps.specs.Call.{space-writer, shows}
 
 sub-put : tie.Need-sub-put
 sub-put c = search needs
@@ -16,13 +16,13 @@ part-put-end : tie.Need-part-put-end
 part-put-end c = search needs
 
 put-requires : tie.Need-put-requires
-put-requires c κs = search needs
+put-requires c κs = space-writer (c .before .before .before .before .pre .2)
 
 same-length : tie.Need-same-length
 same-length c = search needs
 
 returns : tie.Need-returns
-returns c = shows (c .before .before .before .before .before .before .before .pre .2) (c .before .before .put .ensures)
+returns c = shows (c .before .before .before .before .before .before .before .pre .2 .place) (c .before .before .put .ensures)
 
 pub show-spec : {M : Type 1} → statement M
 show-spec =

@@ -17,57 +17,40 @@ slice-aggregate-starts-with : tie.Need-slice-aggregate-starts-with
 slice-aggregate-starts-with c = search needs
 
 starts-with-requires : tie.Need-starts-with-requires
-starts-with-requires c κs =
-    let h = c .before .before .before .before .before .pre .2 .there refl in
-    search needs
+starts-with-requires c κs = let h = c .before .before .before .before .before .pre .2 .there refl in search needs
 
 add-import-step : tie.Need-add-import-step
-add-import-step c =
-    let h = c .before .starts-with .ensures .there (c .if1 .taken) in
-    search needs
+add-import-step c = let h = c .before .starts-with .ensures .there (c .if1 .taken) in search needs
 
 import-step-requires : tie.Need-import-step-requires
-import-step-requires c κs =
-    let h = c .before .starts-with .ensures .there (c .if1 .taken) in
-    search needs
+import-step-requires c κs = let h = c .before .starts-with .ensures .there (c .if1 .taken) in search needs
 
 returns : tie.Need-returns
-returns c = steps-import (c .before .before .starts-with .ensures) (c .before .before .before .before .before .before .before .before .pre .3) (c .before .if1 .taken) (c .import-step .ensures)
+returns c = steps-import (c .before .before .starts-with .ensures) (c .before .before .before .before .before .before .before .before .pre .3 .place) (c .before .if1 .taken) (c .import-step .ensures)
 
 slice-aggregate-starts-with-2 : tie.Need-slice-aggregate-starts-with-2
 slice-aggregate-starts-with-2 c = search needs
 
 starts-with-requires-2 : tie.Need-starts-with-requires-2
-starts-with-requires-2 c κs =
-    let h = c .before .before .before .before .before .before .before .before .pre .2 .there refl in
-    search needs
+starts-with-requires-2 c κs = let h = c .before .before .before .before .before .before .before .before .pre .2 .there refl in search needs
 
 add-let-step : tie.Need-add-let-step
-add-let-step c =
-    let h = c .before .starts-with2 .ensures .there (c .if2 .taken) in
-    search needs
+add-let-step c = let h = c .before .starts-with2 .ensures .there (c .if2 .taken) in search needs
 
 let-step-requires : tie.Need-let-step-requires
-let-step-requires c κs =
-    let h = c .before .before .starts-with2 .ensures .there (c .before .if2 .taken) in
-    let k = c .before .before .before .before .before .before .before .before .before .before .before .pre .4 in
-    search needs
+let-step-requires c κs = let h = c .before .before .starts-with2 .ensures .there (c .before .if2 .taken) in let k = c .before .before .before .before .before .before .before .before .before .before .before .pre .4 in search needs
 
 same-length : tie.Need-same-length
 same-length c = search needs
 
 returns-2 : tie.Need-returns-2
-returns-2 c = steps-let (c .before .before .before .before .before .before .before .before .starts-with .ensures) (c .before .before .before .before .before .before .before .before .before .before .before .before .before .before .pre .3) (c .before .before .before .before .before .before .before .if1 .left) (c .before .before .before .before .before .starts-with2 .ensures) (c .before .before .before .before .if2 .taken) (c .before .before .let-step .ensures)
+returns-2 c = steps-let (c .before .before .before .before .before .before .before .before .starts-with .ensures) (c .before .before .before .before .before .before .before .before .before .before .before .before .before .before .pre .3 .place) (c .before .before .before .before .before .before .before .if1 .left) (c .before .before .before .before .before .starts-with2 .ensures) (c .before .before .before .before .if2 .taken) (c .before .before .let-step .ensures)
 
 slice-reshare-prefix-writing-step : tie.Need-slice-reshare-prefix-writing-step
-slice-reshare-prefix-writing-step c =
-    let k = c .before .before .before .before .before .before .before .before .before .before .pre .4 in
-    search needs
+slice-reshare-prefix-writing-step c = let k = c .before .before .before .before .before .before .before .before .before .before .pre .4 in search needs
 
 slice-aggregate-writing-step : tie.Need-slice-aggregate-writing-step
-slice-aggregate-writing-step c =
-    let k = c .before .before .before .before .before .before .before .before .before .before .before .pre .4 in
-    sym (length-take-le _ _ (omega (arith, k .fits, k .room)))
+slice-aggregate-writing-step c = let k = c .before .before .before .before .before .before .before .before .before .before .before .pre .4 in sym (length-take-le _ _ (omega (arith, k .fits, k .room)))
 
 writing-step-requires : tie.Need-writing-step-requires
 writing-step-requires c κs = (c .before .before .before .before .before .before .before .before .before .before .before .before .pre .0, record { import = starts-as (c .before .before .before .before .before .before .starts-with .ensures) (c .before .before .before .before .before .if1 .left); let-mark = starts-as (c .before .before .before .starts-with2 .ensures) (c .before .before .if2 .left); hash = c .before .before .before .before .before .before .before .before .before .before .before .before .pre .2 }, c .before .before .before .before .before .before .before .before .before .before .before .before .pre .3, c .before .before .before .before .before .before .before .before .before .before .before .before .pre .4 .sheet)

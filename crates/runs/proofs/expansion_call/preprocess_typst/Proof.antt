@@ -32,7 +32,7 @@ store-requires : tie.Need-store-requires
 store-requires c κs = search needs
 
 expand-requires : tie.Need-expand-requires
-expand-requires c κs = let f = c .before .before .before .before .before .before .before .refusal .ensures .yes (search needs) in (f .bundles, f .texts, omega arith, expansion-keeps _ _ _ _ (c .before .before .before .before .before .before .before .before .before .sheet-limit .ensures) f (c .before .before .before .before .store .ensures))
+expand-requires c κs = let f = c .before .before .before .before .before .before .before .refusal .ensures .yes (search needs) in (f .bundles, f .texts, record { place = omega arith; buffer = omega arith; fits = search needs }, expansion-keeps _ _ _ _ (c .before .before .before .before .before .before .before .before .before .sheet-limit .ensures) f (c .before .before .before .before .store .ensures))
 
 refused-requires-2 : tie.Need-refused-requires-2
 refused-requires-2 c κs = search needs

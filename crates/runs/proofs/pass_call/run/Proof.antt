@@ -4,10 +4,10 @@ use Rattle.runs.proofs.pass_call.run.Tie as tie
 use Rattle.runs.proofs.pass_call.run.Reads as reads
 use Rattle.runs.proofs.pass_call.run.Lts as lts
 use Rattle.buffers.proofs.store.Reads as store-reads
-use Rattle.runs.proofs.pass_call.ends_in_newline.Reads as ends-in-newline-reads
-use Rattle.runs.proofs.refused.Reads as refused-reads
 use Rattle.expansion.proofs.expand.Reads as expand-reads
 use Rattle.includes.proofs.resolve.Reads as resolve-reads
+use Rattle.runs.proofs.pass_call.ends_in_newline.Reads as ends-in-newline-reads
+use Rattle.runs.proofs.refused.Reads as refused-reads
 use mathlib.Core.Path.{sym}
 use native.Mathlib.Omega.{arith}
 use borrow.Author.Tests.{not-true, not-false}
@@ -36,9 +36,7 @@ slice-aggregate-expand : tie.Need-slice-aggregate-expand
 slice-aggregate-expand c = sym (length-take-le _ _ (run-inside (c .before .before .before .before .before .before .before .before .before .before .before .before .before .before .before .before .before .before .pre) (c .before .before .before .before .before .before .before .before .before .resolve .ensures) (not-false _ (c .before .before .before .before .before .if1 .left))))
 
 expand-requires : tie.Need-expand-requires
-expand-requires c κs =
-    let e = not-false _ (c .before .before .before .before .before .before .before .if1 .left) in
-    (c .before .before .before .before .before .before .before .before .before .before .before .before .before .before .before .before .before .before .before .before .pre .good .bundles, run-ascii (c .before .before .before .before .before .before .before .before .before .before .before .before .before .before .before .before .before .before .before .before .pre) (c .before .before .before .before .before .before .before .before .before .before .before .resolve .ensures) e, omega arith, run-keeps (c .before .before .before .before .before .before .before .before .before .before .before .before .before .before .before .before .before .before .before .before .pre) (c .before .before .before .before .before .before .before .before .before .before .before .resolve .ensures) e (c .before .before .before .before .before .store .ensures))
+expand-requires c κs = let e = not-false _ (c .before .before .before .before .before .before .before .if1 .left) in (c .before .before .before .before .before .before .before .before .before .before .before .before .before .before .before .before .before .before .before .before .pre .good .bundles, run-ascii (c .before .before .before .before .before .before .before .before .before .before .before .before .before .before .before .before .before .before .before .before .pre) (c .before .before .before .before .before .before .before .before .before .before .before .resolve .ensures) e, record { place = omega arith; buffer = omega arith; fits = omega (arith, c .before .before .before .before .before .before .before .before .before .before .before .before .before .before .before .before .before .before .before .before .good .1 .1 .1 .1 .1 .0 .1) }, run-keeps (c .before .before .before .before .before .before .before .before .before .before .before .before .before .before .before .before .before .before .before .before .pre) (c .before .before .before .before .before .before .before .before .before .before .before .resolve .ensures) e (c .before .before .before .before .before .store .ensures))
 
 refused-requires-2 : tie.Need-refused-requires-2
 refused-requires-2 c κs = search needs
