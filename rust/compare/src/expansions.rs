@@ -4,6 +4,7 @@ use crate::bundles::{changed, edge, fits};
 use crate::damage::damaged;
 use crate::rng::Rng;
 use crate::sheets;
+use crate::sums::{self, Bound, literal_of, many_blanks, more_terms, some_terms, split_sum, tailed};
 use crate::texts::{blanks, one, parent, quoted, with_high_byte, word};
 use oracle::expansion::tree_length;
 use oracle::{Files, Tree, Value, bundle, sheet};
@@ -108,13 +109,22 @@ const STALLS: [&str; 16] = [
     "\\",
 ];
 
+/// Behind the content of a block: one of them stalls it.
+const BLOCK_STALLS: [&str; 5] = [" \"b\"", ", (", ", theme: -1", ", lang: \"r\" + x", ", block: true, -"];
+/// To read: they keep no rule of paths, or no file is there.
+const BAD_PATHS: [&str; 9] = ["../a", "", "/", "//a", " a", "a ", "n", "d/n", "d"];
+/// Short enough to stand in an expression of many terms.
+const LONGEST_BOUND: usize = 1000;
+
 /// What a text may be made with.
 pub struct Group {
     pub files: Files,
     pub tree: Tree,
     /// Paths that lead to values of the tree, and of these the ones to texts with their texts.
     paths: Vec<Vec<u8>>,
-    texts: Vec<(Vec<u8>, Vec<u8>)>,
+    texts: Vec<Bound>,
+    /// The texts that an expression may name, where they are not too long.
+    bound: Vec<Bound>,
     /// Paths that lead to dictionaries, with their keys.
     dictionaries: Vec<(Vec<u8>, Vec<Vec<u8>>)>,
     file_paths: Vec<Vec<u8>>,
@@ -135,11 +145,12 @@ impl Group {
             Some(Value::Dictionary(entries)) => Some((path.to_vec(), entries.keys().cloned().collect())),
             _ => None,
         };
-        let texts = paths.iter().filter_map(text_of).collect();
+        let texts: Vec<Bound> = paths.iter().filter_map(text_of).collect();
+        let bound = texts.iter().filter(|(path, text)| text.len() < LONGEST_BOUND && is_named(path)).cloned().collect();
         let dictionaries = paths.iter().flat_map(|path| starts(path)).filter_map(keys_of).collect();
         let files = files(rng);
         let file_paths = files.keys().cloned().collect();
-        Group { files, tree, paths, texts, dictionaries, file_paths }
+        Group { files, tree, paths, texts, bound, dictionaries, file_paths }
     }
 
     /// The files as a bundle.
@@ -177,17 +188,22 @@ impl Group {
         for _ in 0..count {
             self.piece(&mut text, rng);
         }
+        // An output buffer that is short by few bytes then ends inside of it.
+        if rng.one_in(8) {
+            self.measured(&mut text, rng);
+        }
         text
     }
 
     pub fn piece(&self, text: &mut Vec<u8>, rng: &mut Rng) {
-        match rng.below(40) {
+        match rng.below(50) {
             0..4 => text.extend(word(&WORDS, rng)),
             4..6 => import(text, rng),
             6..15 => self.binding(text, rng),
             15..24 => self.raw(text, rng),
             24..31 => self.link(text, rng),
             31..39 => self.reference_mark(text, rng),
+            39..49 => self.measured(text, rng),
             _ => text.push(b'\n'),
         }
     }
@@ -455,6 +471,74 @@ impl Group {
         }
     }
 
+    /// A call whose output is measured before it is written, or compared while it is read.
+    pub fn measured(&self, text: &mut Vec<u8>, rng: &mut Rng) {
+        if rng.one_in(2) {
+            self.block(text, rng);
+        } else {
+            self.near_link(text, rng);
+        }
+    }
+
+    /// A raw call, mostly a block, whose content ends in many blanks or has many terms. Some stall behind it.
+    fn block(&self, text: &mut Vec<u8>, rng: &mut Rng) {
+        text.extend(b"#raw(");
+        self.tailed_content(text, rng);
+        text.extend(word(&["", "", "", ", lang: \"r\"", ",lang:x", " lang x,"], rng));
+        if !rng.one_in(8) {
+            text.extend(word(&[", block: true", ",block:true", " block true", "\n, block :true,\n"], rng));
+        }
+        if rng.one_in(16) {
+            text.extend(word(&BLOCK_STALLS, rng));
+        }
+        if !rng.one_in(20) {
+            text.push(b')');
+        }
+    }
+
+    fn tailed_content(&self, text: &mut Vec<u8>, rng: &mut Rng) {
+        match rng.below(9) {
+            0 => literal_of(text, &tailed(rng), rng),
+            1 | 2 => split_sum(text, &tailed(rng), &self.bound, some_terms(rng), rng),
+            3 | 4 => {
+                literal_of(text, &tailed(rng), rng);
+                more_terms(text, &self.bound, some_terms(rng) - 1, rng);
+                sums::blank_terms(text, &self.bound, rng);
+            }
+            5 | 6 => text.extend(self.tailed_name(rng)),
+            _ => {
+                text.extend(b"read(");
+                self.split_path(text, rng);
+                text.push(b')');
+            }
+        }
+    }
+
+    /// A path to a text that ends in a blank, where there is one.
+    fn tailed_name(&self, rng: &mut Rng) -> Vec<u8> {
+        let ends = |(_, text): &&Bound| text.last().is_some_and(|c| BLANKS.contains(c));
+        let paths: Vec<Vec<u8>> = self.texts.iter().filter(ends).map(|(path, _)| path.clone()).collect();
+        if paths.is_empty() { self.run(rng) } else { hyphened(one(&paths, rng), rng) }
+    }
+
+    /// A path to read by one term or many; some are refused.
+    fn split_path(&self, text: &mut Vec<u8>, rng: &mut Rng) {
+        let bad = self.file_paths.is_empty() || rng.one_in(8);
+        let path = if bad { word(&BAD_PATHS, rng).to_vec() } else { one(&self.file_paths, rng) };
+        split_sum(text, &path, &self.bound, some_terms(rng), rng);
+    }
+
+    /// A link whose text is its address, or nearly.
+    fn near_link(&self, text: &mut Vec<u8>, rng: &mut Rng) {
+        text.extend(b"#link(");
+        let address = sums::sum(text, &self.bound, some_terms(rng), rng);
+        text.extend(word(&[")[", ")[", ") [", " )\t["], rng));
+        text.extend(sums::near(&address, rng));
+        if !rng.one_in(20) {
+            text.push(b']');
+        }
+    }
+
     /// Writes the address of a link, and answers what it may come to.
     fn address(&self, text: &mut Vec<u8>, rng: &mut Rng) -> Vec<u8> {
         match rng.below(24) {
@@ -503,6 +587,11 @@ fn value_at<'a>(tree: &'a Tree, path: &[u8]) -> Option<&'a Value> {
     })
 }
 
+/// Does an expression read a reference there, and does it lead where the path does.
+fn is_named(path: &[u8]) -> bool {
+    path.first().is_some_and(|c| c.is_ascii_alphabetic() || *c == b'_') && !path.contains(&b'-')
+}
+
 /// The path, and each part of it before a `.`.
 fn starts(path: &[u8]) -> impl Iterator<Item = &[u8]> {
     (0..=path.len()).filter(|&i| i == path.len() || path[i] == b'.').map(|i| &path[..i])
@@ -546,7 +635,12 @@ fn known(rng: &mut Rng) -> Tree {
         ("x_y", value("x]y")),
         ("y", value("")),
     ];
-    some(&all, rng)
+    let mut tree = some(&all, rng);
+    tree.insert(b"b".to_vec(), Value::Text(many_blanks(rng)));
+    for name in ["e_f", "w"] {
+        tree.insert(name.into(), Value::Text(tailed(rng)));
+    }
+    tree
 }
 
 /// Most of the records.
@@ -578,6 +672,7 @@ fn content(rng: &mut Rng) -> Vec<u8> {
             rng.string(b"abc \n", n)
         }
         5 if rng.one_in(20) => rng.string(b"abc \n", 65_535),
+        6..30 => tailed(rng),
         _ => word(&CONTENTS, rng).to_vec(),
     }
 }
@@ -638,6 +733,17 @@ pub fn rooms(written: usize, longest: usize, rng: &mut Rng) -> (usize, usize) {
     }
 }
 
+/// A start of the text that ends with `)` or `]`, as a call does. What comes out of it is a length for `inside`.
+pub fn through_a_call<'a>(text: &'a [u8], rng: &mut Rng) -> Option<&'a [u8]> {
+    let ends: Vec<usize> = (1..=text.len()).filter(|&i| matches!(text[i - 1], b')' | b']')).collect();
+    if ends.is_empty() { None } else { Some(&text[..*rng.pick(&ends)]) }
+}
+
+/// The length of a buffer that ends with the output of a call or few bytes before: inside of what stands behind its content, or of its content.
+pub fn inside(len: usize, rng: &mut Rng) -> usize {
+    len.saturating_sub(rng.below(7))
+}
+
 pub fn enough(len: usize, rng: &mut Rng) -> usize {
     match rng.below(8) {
         0..4 => len,
@@ -651,6 +757,7 @@ pub fn short(len: usize, rng: &mut Rng) -> usize {
         0..4 => len.saturating_sub(1),
         4 => 0,
         5 => rng.below(30),
+        6 => inside(len, rng),
         _ => rng.below(len + 1),
     }
 }
@@ -676,7 +783,7 @@ mod tests {
     fn what_the_texts_do() {
         let mut rng = Rng::new(2);
         let mut numbers = [0; 12];
-        let mut done = [0; 16];
+        let mut done = [0; 19];
         for _ in 0..1000 {
             let group = Group::new(&mut rng);
             for _ in 0..20 {
@@ -688,9 +795,11 @@ mod tests {
                 numbers[usize::from(here.result.as_ref().err().copied().unwrap_or(0))] += 1;
                 if here.result.is_ok() {
                     let s = here.seen;
+                    let long = s.most_terms / 5;
                     let all = [
                         s.imports, s.lets, s.replaced, s.copied, s.dictionaries, s.raws, s.blocks, s.reads, s.links,
-                        s.boxes, s.bare, s.handed_back, s.unended, s.found, s.missing, s.called,
+                        s.boxes, s.bare, s.handed_back, s.unended, s.found, s.missing, s.called, s.trimmed, s.equal,
+                        long,
                     ];
                     all.iter().zip(&mut done).for_each(|(&n, sum)| *sum += usize::from(n > 0));
                 }

@@ -16,6 +16,7 @@ mod passes;
 mod rng;
 mod sheets;
 mod shrink;
+mod sums;
 mod texts;
 
 use case::Case;

@@ -55,7 +55,7 @@ impl Group {
         // Files with something to expand, some of it unended.
         for content in included.files.values_mut().filter(|content| content.len() < SHORT) {
             let mut added = Vec::new();
-            if rng.one_in(2) {
+            if rng.one_in(3) {
                 expanded.piece(&mut added, rng);
             }
             if rng.one_in(8) {
@@ -107,6 +107,9 @@ impl Group {
                 5..8 => text.push(b'\n'),
                 _ => self.expanded.piece(&mut text, rng),
             }
+        }
+        if rng.one_in(6) {
+            self.expanded.measured(&mut text, rng);
         }
         if rng.one_in(10) {
             text.extend(word(&OPENINGS, rng));

@@ -41,13 +41,17 @@ pub struct Seen {
     pub replaced: usize,
     pub copied: usize,
     pub dictionaries: usize,
-    /// Calls of `#raw`; those of them that are blocks, and that read a file.
+    /// Calls of `#raw`; those of them that are blocks, blocks that lose blanks, and that read a file.
     pub raws: usize,
     pub blocks: usize,
+    pub trimmed: usize,
     pub reads: usize,
-    /// Calls of `#link`; those of them that keep their text.
+    /// Calls of `#link`; those of them whose text is their address, and that keep their text.
     pub links: usize,
+    pub equal: usize,
     pub boxes: usize,
+    /// The terms of the expression that has the most.
+    pub most_terms: usize,
     /// Marks `#raw` and `#link` that were copied: without `(`, and handed back.
     pub bare: usize,
     pub handed_back: usize,
@@ -100,6 +104,7 @@ pub fn answer(files: Option<&Files>, text: &[u8], sheet: Option<&Tree>, out_len:
     if done.is_ok() {
         reached = text.len();
     }
+    run.seen.most_terms = run.text.most_terms;
     Answer {
         written: run.out.len(),
         longest: run.longest,
@@ -250,11 +255,12 @@ impl Run<'_> {
         self.seen.raws += 1;
         self.seen.blocks += usize::from(block);
         self.ends();
-        Ok(Some(if block {
-            [b"```", &lang[..], b"\n", without_last_blanks(&content), b"\n```\n"].concat()
-        } else {
-            [b"`", &content[..], b"`"].concat()
-        }))
+        if !block {
+            return Ok(Some([b"`", &content[..], b"`"].concat()));
+        }
+        let kept = without_last_blanks(&content);
+        self.seen.trimmed += usize::from(kept.len() < content.len());
+        Ok(Some([b"```", &lang[..], b"\n", kept, b"\n```\n"].concat()))
     }
 
     /// Behind `read`: the file's content, or None where the call is handed back.
@@ -332,6 +338,7 @@ impl Run<'_> {
         let text = self.text.span(|c| c != b']');
         self.ends();
         if text.is_empty() || text == address {
+            self.seen.equal += usize::from(!text.is_empty());
             return Ok(Some(address));
         }
         self.seen.boxes += 1;
@@ -493,9 +500,12 @@ mod tests {
             dictionaries: 1,
             raws: 2,
             blocks: 1,
+            trimmed: 0,
             reads: 1,
             links: 2,
+            equal: 0,
             boxes: 1,
+            most_terms: 1,
             bare: 1,
             handed_back: 1,
             handed_back_last: 0,
@@ -507,6 +517,8 @@ mod tests {
         let here = run(text, usize::MAX, usize::MAX);
         assert_eq!(here.seen, wanted);
         assert_eq!((here.written, here.reached), (here.result.unwrap().out.len(), text.len()));
+        let seen = run("#raw(\"a\" + x + \" \",block:true)#link(\"1\" + \"0\")[10]#link(x)[]", 99, 99).seen;
+        assert_eq!((seen.trimmed, seen.equal, seen.most_terms), (1, 1, 3));
         assert_eq!(run("#raw(read \n", 99, 99).seen.handed_back_last, 1);
         assert_eq!(run("#raw(read \nx", 99, 99).seen.handed_back_last, 0);
         let here = run("ab #raw(\"a\" (", 99, 99);

@@ -8,11 +8,13 @@ pub struct Text<'a> {
     /// References of expressions that have a text, and of these the ones to a key.
     pub found: usize,
     pub keyed: usize,
+    /// The terms of the expression that has the most.
+    pub most_terms: usize,
 }
 
 impl<'a> Text<'a> {
     pub fn new(bytes: &'a [u8]) -> Text<'a> {
-        Text { bytes, at: 0, found: 0, keyed: 0 }
+        Text { bytes, at: 0, found: 0, keyed: 0, most_terms: 0 }
     }
 
     pub fn next(&self) -> Option<u8> {
@@ -83,18 +85,20 @@ impl<'a> Text<'a> {
 
     pub fn expression(&mut self, sheet: &Tree) -> Vec<u8> {
         let mut value = Vec::new();
-        loop {
+        for terms in 1.. {
             self.span(is_line_blank);
             match self.next() {
                 Some(b'"') => value.extend(self.literal()),
                 Some(c) if is_letter(c) || c == b'_' => value.extend(self.reference(sheet)),
-                _ => return value,
+                _ => break,
             }
+            self.most_terms = self.most_terms.max(terms);
             self.span(is_line_blank);
             if !self.takes(b"+") {
-                return value;
+                break;
             }
         }
+        value
     }
 }
 

@@ -5,7 +5,7 @@ use crate::buffer::Buffer;
 use crate::bundles;
 use crate::case::{Case, Form};
 use crate::damage::damaged;
-use crate::expansions::{Group, rooms};
+use crate::expansions::{Group, inside, rooms, through_a_call};
 use crate::rng::Rng;
 use crate::sheets;
 use oracle::expansion::{Answer, Expanded, Seen, answer, tree_of};
@@ -16,6 +16,8 @@ use wagtailfen::preprocess_typst;
 
 /// How many cases are made with the files and the sheet of one group.
 const USES: usize = 40;
+/// In one case of so many the output buffer ends inside of a call's output, if there is a call.
+pub const INSIDE: usize = 9;
 
 #[derive(Default)]
 pub struct Expansion {
@@ -58,7 +60,12 @@ impl Mode for Expansion {
     fn case(&mut self, rng: &mut Rng) -> Case {
         let Arguments { bundle, text, sheet } = self.arguments(rng);
         let whole = self.answer(&bundle, &text, &sheet, usize::MAX, usize::MAX);
-        let (out, left) = rooms(whole.written, whole.longest, rng);
+        let (mut out, left) = rooms(whole.written, whole.longest, rng);
+        if rng.one_in(INSIDE)
+            && let Some(start) = through_a_call(&text, rng)
+        {
+            out = inside(self.answer(&bundle, start, &sheet, usize::MAX, usize::MAX).written, rng);
+        }
         Case::default()
             .input("bundle", Form::Bundle, bundle)
             .input("text", Form::Plain, text)
@@ -211,12 +218,15 @@ struct Tally {
 
 type Kind = (&'static str, fn(&Seen) -> usize);
 
-const KINDS: [Kind; 16] = [
+const KINDS: [Kind; 19] = [
     ("a raw", |s| s.raws),
     ("a block", |s| s.blocks),
+    ("a block that loses blanks", |s| s.trimmed),
     ("a file read", |s| s.reads),
     ("a link", |s| s.links),
+    ("a link whose text is its address", |s| s.equal),
     ("a link that keeps its text", |s| s.boxes),
+    ("an expression of five terms or more", |s| s.most_terms / 5),
     ("a mark without (", |s| s.bare),
     ("a call handed back", |s| s.handed_back),
     ("a call without its end", |s| s.unended),

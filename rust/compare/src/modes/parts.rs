@@ -2,9 +2,11 @@
 //! text. Wherever each part but the last is closed and the pass over the whole is accepted, every pass must be accepted, their outputs joined
 //! must be its output, and the last sheet and the last `closed` must be its own. Whether a part is closed is asked of `oracle::pass`; each
 //! pass, whatever the parts are, must also answer what `oracle::pass` says.
+use super::expansion::INSIDE;
 use super::pass::{Known, Left, call, case, rooms_of};
 use super::{Mode, same, same_bytes};
 use crate::case::{Case, Form};
+use crate::expansions::short;
 use crate::passes::Group;
 use crate::rng::Rng;
 use oracle::expansion::tree_of;
@@ -45,7 +47,13 @@ impl Mode for Parts {
             if rng.one_in(5) { cut_text(group, &folder, rng) } else { joined_parts(group, known, &folder, rng) };
         let whole = answer(known.files.as_ref(), &folder, &text, known.tree.as_ref(), Rooms::WIDE);
         let enough = Rooms { middle: whole.middle, out: whole.written, left: whole.longest };
-        let case = case(bundle.clone(), folder, text, sheet.clone(), rooms(enough, rng));
+        let mut rooms = rooms(enough, rng);
+        if rng.one_in(INSIDE)
+            && let Some(out) = known.room_inside(&folder, &text, rng)
+        {
+            rooms.out = out;
+        }
+        let case = case(bundle.clone(), folder, text, sheet.clone(), rooms);
         case.input("cuts", Form::Plain, cuts.iter().flat_map(|&at| (at as u32).to_le_bytes()).collect())
     }
 
@@ -144,7 +152,7 @@ fn rooms(enough: Rooms, rng: &mut Rng) -> Rooms {
     let Rooms { middle, out, left } = enough;
     match rng.below(30) {
         0 => Rooms { middle: middle.saturating_sub(1), ..enough },
-        1 => Rooms { out: out.saturating_sub(1), ..enough },
+        1 => Rooms { out: short(out, rng), ..enough },
         2 => Rooms { left: left.saturating_sub(1), ..enough },
         _ => Rooms { middle: more(middle, rng), out: more(out, rng), left: more(left, rng) },
     }

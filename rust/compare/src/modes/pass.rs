@@ -1,10 +1,12 @@
 //! `pass`: the accepted calls against the reference's includes and then its expansion, output and bindings; the refused ones, and whether
 //! a text is closed, against 01 as `oracle::pass` reads it.
+use super::expansion::INSIDE;
 use super::{Mode, same, same_bytes};
 use crate::buffer::Buffer;
 use crate::bundles;
 use crate::case::{Case, Form};
 use crate::damage::damaged;
+use crate::expansions::{inside, through_a_call};
 use crate::passes::{Group, rooms};
 use crate::rng::Rng;
 use crate::sheets;
@@ -58,7 +60,12 @@ impl Mode for Pass {
         };
         let known = self.known.with(&bundle, &sheet);
         let whole = answer(known.files.as_ref(), &folder, &text, known.tree.as_ref(), Rooms::WIDE);
-        let rooms = rooms(Rooms { middle: whole.middle, out: whole.written, left: whole.longest }, rng);
+        let mut rooms = rooms(Rooms { middle: whole.middle, out: whole.written, left: whole.longest }, rng);
+        if rng.one_in(INSIDE)
+            && let Some(out) = known.room_inside(&folder, &text, rng)
+        {
+            rooms.out = out;
+        }
         case(bundle, folder, text, sheet, rooms)
     }
 
@@ -167,6 +174,12 @@ impl Known {
         self
     }
 
+    /// The length of an output buffer that ends inside of a call's output.
+    pub fn room_inside(&self, folder: &[u8], text: &[u8], rng: &mut Rng) -> Option<usize> {
+        let start = through_a_call(text, rng)?;
+        Some(inside(answer(self.files.as_ref(), folder, start, self.tree.as_ref(), Rooms::WIDE).written, rng))
+    }
+
     /// The reference's answer for a call that 01 accepts must be 01's.
     fn held_to_the_reference(&mut self, folder: &[u8], text: &[u8], by_01: &Passed) -> Result<(), String> {
         let (out, left) =
@@ -227,11 +240,14 @@ struct Tally {
 
 type Kind = (&'static str, fn(&Answer) -> usize);
 
-const KINDS: [Kind; 9] = [
+const KINDS: [Kind; 12] = [
     ("an include", |a| a.includes.includes),
     ("a source", |a| a.includes.sources),
     ("a mark of its own that leaves it open", |a| a.includes.open),
     ("a raw or a link", |a| a.expansion.raws + a.expansion.links),
+    ("a block that loses blanks", |a| a.expansion.trimmed),
+    ("a link whose text is its address", |a| a.expansion.equal),
+    ("an expression of five terms or more", |a| a.expansion.most_terms / 5),
     ("a call that the text's end cuts off", |a| a.expansion.unended + a.expansion.handed_back_last),
     ("a call handed back", |a| a.expansion.handed_back),
     ("a file read", |a| a.expansion.reads),
