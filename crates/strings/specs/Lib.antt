@@ -1,4 +1,5 @@
 pub mod Progress
 pub mod Read
+pub mod Text
 pub mod Laws
 pub mod Paths

@@ -15,6 +15,16 @@ use Rattle.strings.specs.Progress.{Adds}
 unfoldable pub beginning : ℕ → Progress
 beginning p = record { next = p; kept = p; met = 1 }
 
+-- r: what a reader made of t, and its rest. It ends behind k bytes.
+pub record Ends (r : List ℕ × List ℕ) (t : List ℕ) (k : ℕ) : Type 0 where
+  pub inside : k ≤ length t
+  pub rest : r .1 ≡ drop k t
+
+-- And its text is v.
+pub record Makes (r : List ℕ × List ℕ) (t : List ℕ) (k : ℕ) (v : List ℕ) : Type 0 where
+  pub ends : Ends r t k
+  pub text : r .0 ≡ v
+
 -- v: what a reader made of t, and its rest. k bytes are read, and the text is put at p.
 pub record Wrote (room : ℕ) (v : List ℕ × List ℕ) (t b : List ℕ) (p : ℕ) (c : List ℕ) (k q : ℕ) : Type 0 where
   pub inside : k ≤ length t
@@ -27,13 +37,17 @@ pub record Took (room : ℕ) (o : List ℕ) (v : List ℕ × List ℕ) (t b : Li
   pub rest : v .1 ≡ drop k t
   pub adds : Adds room o b a (v .0) c z
 
--- A round of an expression up to its `+`. Found: a text is added and reading goes on behind k bytes; else the round stops there.
-pub record IsTerm (look : List ℕ → List ℕ) (room : ℕ) (o : List ℕ) (found : Bool) (t b : List ℕ) (a : Progress) (c : List ℕ) (k : ℕ) (z : Progress) : Type 0 where
+-- A round of an expression up to its `+`, with the text v. Found: reading goes on behind k bytes; else the round stops there.
+pub record IsRound (look : List ℕ → List ℕ) (found : Bool) (t : List ℕ) (k : ℕ) (v : List ℕ) : Type 0 where
   pub inside : k ≤ length t
+  pub goes : found ≡ true → (u : List ℕ) → expressionRound look u t ≡ plus look (u ++ v) (drop k t)
+  pub stops : found ≡ false → (u : List ℕ) → expressionRound look u t ≡ (stop (u ++ v), drop k t)
+
+-- The same, and its text is added to what has come.
+pub record IsTerm (look : List ℕ → List ℕ) (room : ℕ) (o : List ℕ) (found : Bool) (t b : List ℕ) (a : Progress) (c : List ℕ) (k : ℕ) (z : Progress) : Type 0 where
   pub text : List ℕ
+  pub round : IsRound look found t k text
   pub adds : Adds room o b a text c z
-  pub goes : found ≡ true → (v : List ℕ) → expressionRound look v t ≡ plus look (v ++ text) (drop k t)
-  pub stops : found ≡ false → (v : List ℕ) → expressionRound look v t ≡ (stop (v ++ text), drop k t)
 
 -- The text v lies in the sheet s, from x to y.
 pub record Places (s v : List ℕ) (x y : ℕ) : Type 0 where

@@ -52,7 +52,7 @@ same-length-2 : tie.Need-same-length-2 Inv-loop μ-loop
 same-length-2 c = put-length (c .before .before .before .before .before .add .ensures .put) ∙ put-length (c .before .before .before .before .before .before .before .before .before .loop .inv .adds .put)
 
 returns-2 : tie.Need-returns-2 Inv-loop μ-loop
-returns-2 c = literal-quote (c .before .before .before .before .before .before .before .before .before .before .before .before .before .pre .1) (c .before .before .before .before .before .before .before .before .before .loop .inv) (c .before .before .before .before .before .before .before .before .span .ensures) (c .before .before .before .before .before .add .ensures) (put-writer (c .before .before .before .before .before .add .ensures .put) (put-writer (c .before .before .before .before .before .before .before .before .before .loop .inv .adds .put) (c .before .before .before .before .before .before .before .before .before .before .before .before .before .pre .0))) (search needs) (search needs)
+returns-2 c = literal-quote (c .before .before .before .before .before .before .before .before .before .before .before .before .before .pre .1) (c .before .before .before .before .before .before .before .before .before .loop .inv) (c .before .before .before .before .before .before .before .before .span .ensures) (c .before .before .before .before .before .add .ensures) (search needs) (put-writer (c .before .before .before .before .before .add .ensures .put) (put-writer (c .before .before .before .before .before .before .before .before .before .loop .inv .adds .put) (c .before .before .before .before .before .before .before .before .before .before .before .before .before .pre .0))) (search needs)
 
 sub-if3 : tie.Need-sub-if3 Inv-loop μ-loop
 sub-if3 c = search needs

@@ -1,0 +1,76 @@
+// Where literals and expressions end. That is the same for every sheet, and is found without their texts.
+ghost use mathlib.Core.List.{List};
+ghost use Prim.Native.Nat.{ℕ};
+ghost use Rattle.rules.specs.Strings.{literal, expression};
+ghost use Rattle.strings.specs.Read.{Ends};
+ghost use Rattle.strings.specs.Text.{EndsRound};
+
+// Where a literal ends, from behind its quote.
+pub fn literal_end(text: &[u8]) -> usize
+    ensures { λ k. ⌜ Ends (literal (now (text .entry))) (now (text .entry)) k ⌝ }
+{
+    let mut i: usize = 0;
+    loop {
+        let j = scan::span(text, i, scan::Set::NotQuoteNorBackslash);
+        if text.len() <= j {
+            return j;
+        }
+        if text[j] == 34 {
+            return j + 1;
+        }
+        if text.len() - j == 1 {
+            return j + 1;
+        }
+        i = j + 2;
+    }
+}
+
+// Where a round of an expression ends, and is there a term?
+pub struct RoundEnd {
+    pub found: bool,
+    pub used: usize,
+}
+
+// Where a round of an expression ends, up to its `+`.
+fn round_end(text: &[u8]) -> RoundEnd
+    ensures { λ r. ⌜ EndsRound (now (text .entry)) (r .found) (r .used) ⌝ }
+{
+    let i = scan::span(text, 0, scan::Set::LineBlank);
+    if scan::at(text, i, b'"') {
+        let k = literal_end(&text[i + 1..]);
+        return RoundEnd {
+            found: true,
+            used: i + 1 + k,
+        };
+    }
+    if scan::sees(text, i, scan::Set::UnderscoreOrLetter) {
+        let e = scan::span(text, i, scan::Set::Run);
+        return RoundEnd {
+            found: true,
+            used: e,
+        };
+    }
+    RoundEnd {
+        found: false,
+        used: i,
+    }
+}
+
+// Where an expression ends.
+pub fn expression_end(text: &[u8]) -> usize
+    ensures { λ k. ⌜ ((look : List ℕ → List ℕ) → Ends (expression look (now (text .entry))) (now (text .entry)) k) ⌝ }
+{
+    let mut i: usize = 0;
+    loop {
+        let t = round_end(&text[i..]);
+        i += t.used;
+        if !t.found {
+            return i;
+        }
+        i = scan::span(text, i, scan::Set::LineBlank);
+        if !scan::at(text, i, b'+') {
+            return i;
+        }
+        i += 1;
+    }
+}
