@@ -3,16 +3,14 @@ use mathlib.Core.Path.{_≡_, refl, sym, ap, _∙_}
 use mathlib.Core.List.{List}
 use Prim.Native.Nat.{ℕ, zero, suc, _+_, _^_, _≤_, _<_}
 use native.Mathlib.Omega.{arith}
-use lib.Dec.{eqb}
 use lib.ListN.{length, drop}
 use lib.Seq.{length-take-le}
-use Rattle.rules.specs.Reader.{same}
 use Rattle.rules.specs.Bytes.{trimEnd}
 use Rattle.buffers.specs.Put.{after, Writer}
 use Rattle.buffers.specs.Laws.{after-none}
 use Rattle.paths.specs.Paths.{TrimsEnd}
 use Rattle.strings.specs.declared.progress.Progress.{Progress}
-use Rattle.strings.specs.Progress.{behind, keptBehind, met-same}
+use Rattle.strings.specs.Progress.{behind, keptBehind}
 use Rattle.strings.specs.Read.{beginning, Took}
 use Rattle.calls.specs.declared.measure.Measure.{Measure}
 use Rattle.calls.specs.declared.measure.Measured.{Measured}
@@ -53,7 +51,3 @@ measures-read {room} e h {v = v} w = record {
   rest = w .rest;
   size = record { len = rw e at (w .adds .put .place); kept = rw e at (w .adds .kept) ∙ kept-start room (length (trimEnd (v .0))) h };
 }
-
--- What is compared from the start.
-pub compared : {o : List ℕ} {v : List ℕ × List ℕ} {t b c : List ℕ} {k : ℕ} {z : Progress} → Took 0 o v t b (record { next = 0; kept = 0; met = 0 }) c k z → eqb (z .met) (length o) ≡ same (v .0) o
-compared {o} {v} w = ap (λ x. eqb x (length o)) (w .adds .met) ∙ met-same o (v .0)

@@ -1,4 +1,5 @@
-// Calls (document 01, section 5): what a call comes to, and what the texts that it takes measure.
+// Calls (document 01, section 5): what a call comes to; what the texts that it takes measure; an expression compared with another text.
+pub mod compare;
 pub mod measure;
 
 // What a call comes to: handed back; refused; an output, and whether the call ends on its own `)` or `]`.

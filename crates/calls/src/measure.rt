@@ -1,9 +1,6 @@
 // The texts that a call takes, measured by their readers without a buffer.
 use paths::trim_end;
-use strings::progress::Progress;
-ghost use mathlib.Core.Path.{_≡_};
 ghost use Prim.Native.Nat.{_+_, _^_, _<_};
-ghost use Rattle.rules.specs.Reader.{same};
 ghost use Rattle.rules.specs.Strings.{literal, expression};
 ghost use Rattle.rules.specs.Sheet.{resolveString};
 ghost use Rattle.sheet.specs.Find.{IsSheet};
@@ -60,20 +57,4 @@ pub fn expression(text: &[u8], sheet: &[u8], room: usize) -> Measured
         kept: to.kept,
     };
     Measured { used: r.used, size }
-}
-
-// Is an expression's text the same as another text? They are compared while the expression is read.
-pub fn is_text(text: &[u8], sheet: &[u8], other: &[u8]) -> bool
-    requires { ⌜ IsSheet (now sheet) ⌝ }
-    ensures { λ r. ⌜ ((s : IsSheet (now (sheet .entry))) → r ≡ same (expression (resolveString (s .r)) (now (text .entry)) .0) (now (other .entry))) ⌝ }
-{
-    let mut none = [0u8; 0];
-    let start = Progress {
-        next: 0,
-        kept: 0,
-        met: 0,
-    };
-    let r = strings::readers::expression(text, sheet, other, &mut none, 0, start);
-    let to = r.to;
-    to.met == other.len()
 }

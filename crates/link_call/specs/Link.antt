@@ -1,30 +1,25 @@
 -- The link call.
 use mathlib.Core.Path.{_≡_, refl, sym, ap, _∙_}
 use mathlib.Core.List.{List, [], _∷_}
-use mathlib.Core.Bool.{Bool, true, false, not, _&&_, _||_, true≢false}
+use mathlib.Core.Bool.{Bool, true, false, _||_, true≢false}
 use Prim.Native.Nat.{ℕ, _+_, _-_, _≤_, _<_}
 use native.Mathlib.Omega.{arith}
-use native.Mathlib.Nat.{zero-add}
-use lib.Dec.{leb, eqb}
 use lib.ListN.{length, take, drop}
 use lib.Seq.{drop-drop}
-use borrow.Author.Tests.{leb-true, ne-eqb, eqb-false, not-true}
 use Rattle.rules.specs.Reader.{Reader, bytes, empty, same, ret, ifR, _>>=_, _>>_}
 use Rattle.rules.specs.Bytes.{blank, lineBlank}
 use Rattle.rules.specs.Strings.{expression}
 use Rattle.rules.specs.Expansion.{Call, outputs, linkText, linkContentBlock, linkEnd, link}
-use Rattle.rules.specs.Laws.Bool.{and-l, and-r}
 use Rattle.rules.specs.Laws.Sheet.{same-refl, same-eq}
 use Rattle.scan.specs.Sets.{byteIs, notByte, part, Spans, Skips, Sees}
 use Rattle.scan.specs.Laws.{sees-the, skip-at, not-empty, tail-part}
 use Rattle.scan.specs.Stretches.{spans-but}
-use Rattle.buffers.specs.Put.{after, Put}
-use Rattle.buffers.specs.Laws.{after-fits, put-length, put-then}
+use Rattle.buffers.specs.Put.{Put}
+use Rattle.buffers.specs.Laws.{put-length, put-then}
 use Rattle.buffers.specs.Emits.{put-fills}
 use Rattle.calls.specs.declared.Outcome.the-variants.{HandedBack, Output}
-use Rattle.calls.specs.declared.measure.Measured.{Measured}
 use Rattle.calls.specs.Called.{Says, Calls}
-use Rattle.calls.specs.Measure.{MeasuresRead}
+use Rattle.string_ends.specs.Ends.{Ends}
 use Rattle.link_call.specs.declared.Ending.{Ending}
 
 -- From i on e reads the end of r, for every address.
@@ -111,15 +106,6 @@ module _ (u w : List ℕ) where
     pub alone-same : {c : Bool} → c ≡ same u w → c ≡ (empty w || same w u)
     alone-same e = e ∙ same-sym u w ∙ ap (λ z. z || same w u) (sym (not-empty w h))
 
-    pub alone-other : (room : ℕ) {n : ℕ} → n ≡ after room 0 (length u) → (leb n room && not (eqb n (length w))) ≡ true → false ≡ (empty w || same w u)
-    alone-other room {n} e k = sym (ap (λ z. z || same w u) (not-empty w h) ∙ differ (ne-eqb (length w) (length u) (λ z. eqb-false n (length w) (not-true _ (and-r (leb n room) _ k)) (exact ∙ sym z))))
-      where
-        exact : n ≡ length u
-        exact = e ∙ after-fits room 0 (length u) (omega (arith, e, leb-true n room (and-l (leb n room) _ k))) ∙ zero-add (length u)
-
-        differ : eqb (length w) (length u) ≡ false → same w u ≡ false
-        differ d = unfold same in rw d refl
-
 -- THE TEXT of a call.
 module _ (u w : List ℕ) {a : Bool} (A : a ≡ (empty w || same w u)) {room : ℕ} {o : List ℕ} {p : ℕ} where
   pub link-alone : a ≡ true → {c : List ℕ} {q : ℕ} → Put room o p u c q → Put room o p (linkText u w) c q
@@ -140,12 +126,12 @@ module _ (look : List ℕ → List ℕ) {t : List ℕ} {at i : ℕ} (L : Spans b
   unfolding link Says _>>=_ _>>_ ifR ret
   link-back e = record { on = L .on; inside = L .inside; size = refl; says = (rw (L .rest, sees-the "<" s e .says) refl, refl) }
 
-  pub link-put : c ≡ false → {m : Measured} → MeasuresRead room (expression look (take (length t - i) (drop i t))) (take (length t - i) (drop i t)) m →
-      {e : Ending} → Closes linkEnd t (i + m .used) e → {d : List ℕ} {r : ℕ} → Put room b p (linkText (expression look (take (length t - i) (drop i t)) .0) (part t (e .from) (e .to))) d r → Calls room (link look (drop at t)) t at b p d (record { outcome = Output (e .whole) r; at = e .at })
+  pub link-put : c ≡ false → {k : ℕ} → Ends (expression look (take (length t - i) (drop i t))) (take (length t - i) (drop i t)) k →
+      {e : Ending} → Closes linkEnd t (i + k) e → {d : List ℕ} {r : ℕ} → Put room b p (linkText (expression look (take (length t - i) (drop i t)) .0) (part t (e .from) (e .to))) d r → Calls room (link look (drop at t)) t at b p d (record { outcome = Output (e .whole) r; at = e .at })
   unfolding Says
-  link-put f {m} w {e} E {d} {r} K =
+  link-put f {k} w {e} E {d} {r} K =
       let u = expression look (drop i t) .0 in
-      let v : MeasuresRead room (expression look (drop i t)) (drop i t) m = rw tail-part at w in
+      let v : Ends (expression look (drop i t)) (drop i t) k = rw tail-part at w in
       let F : Put room b p (linkText u (part t (e .from) (e .to))) d r = rw tail-part at K in
       record {
         on = omega (arith, L .on, E .on);
@@ -154,5 +140,5 @@ module _ (look : List ℕ → List ℕ) {t : List ℕ} {at i : ℕ} (L : Spans b
         says = (linkText u (part t (e .from) (e .to)), reads v ∙ E .says u, put-fills F);
       }
     where
-      reads : MeasuresRead room (expression look (drop i t)) (drop i t) m → link look (drop at t) ≡ linkEnd (expression look (drop i t) .0) (drop (i + m .used) t)
-      reads v = unfold link _>>=_ _>>_ ifR in (rw (L .rest, sees-the "<" s f .says, v .rest, drop-drop (m .used) i t) refl)
+      reads : Ends (expression look (drop i t)) (drop i t) k → link look (drop at t) ≡ linkEnd (expression look (drop i t) .0) (drop (i + k) t)
+      reads v = unfold link _>>=_ _>>_ ifR in (rw (L .rest, sees-the "<" s f .says, v .rest, drop-drop k i t) refl)

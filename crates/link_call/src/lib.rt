@@ -1,4 +1,5 @@
-// The link call: an address, and a text in a content block behind it.
+// The link call: an address, and a text in a content block behind it. The address is read to find its end, then to compare it, up to the first term
+// that differs, then to put it.
 use calls::Called;
 use calls::Outcome;
 use scan::Set;
@@ -11,7 +12,7 @@ ghost use Rattle.rules.specs.Strings.{expression};
 ghost use Rattle.rules.specs.Sheet.{resolveString};
 ghost use Rattle.rules.specs.Expansion.{linkText, linkContentBlock, linkEnd, link};
 ghost use Rattle.sheet.specs.Find.{IsSheet};
-ghost use Rattle.buffers.specs.Put.{after, Writer, Put};
+ghost use Rattle.buffers.specs.Put.{Writer, Put};
 ghost use Rattle.calls.specs.Called.{Calls};
 ghost use Rattle.link_call.specs.Link.{Closes};
 
@@ -69,19 +70,15 @@ fn call_end(text: &[u8], at: usize) -> Ending
     }
 }
 
-// Is a call's text its address alone? Then the content block's text is empty, or the address, with which it is compared while that is read. `len`: the
-// address's length, as far as the room goes.
-fn address_alone(address: &[u8], sheet: &[u8], text: &[u8], len: usize, room: usize) -> bool
-    requires { ⌜ IsSheet (now sheet) × ((s : IsSheet (now sheet)) → len ≡ after room 0 (length (expression (resolveString (s .r)) (now address) .0))) ⌝ }
+// Is a call's text its address alone? Then the content block's text is empty, or the address, with which it is compared while that is read.
+fn address_alone(address: &[u8], sheet: &[u8], text: &[u8]) -> bool
+    requires { ⌜ IsSheet (now sheet) ⌝ }
     ensures { λ r. ⌜ ((s : IsSheet (now (sheet .entry))) → r ≡ (empty (now (text .entry)) || same (now (text .entry)) (expression (resolveString (s .r)) (now (address .entry)) .0))) ⌝ }
 {
     if text.len() == 0 {
         return true;
     }
-    if (len <= room) & (len != text.len()) {
-        return false;
-    }
-    calls::measure::is_text(address, sheet, text)
+    calls::compare::is_text(address, sheet, text)
 }
 
 // Puts the text of a call: the address alone, or a link of it with the content block's text.
@@ -89,15 +86,14 @@ fn put_link(
     address: &[u8],
     sheet: &[u8],
     text: &[u8],
-    len: usize,
     out: &mut [u8],
     room: usize,
     p: usize,
 ) -> usize
-    requires { ⌜ Writer room p × (length (now out) ≤ room) × IsSheet (now sheet) × ((s : IsSheet (now sheet)) → len ≡ after room 0 (length (expression (resolveString (s .r)) (now address) .0))) ⌝ }
+    requires { ⌜ Writer room p × (length (now out) ≤ room) × IsSheet (now sheet) ⌝ }
     ensures { λ r. ⌜ ((s : IsSheet (now (sheet .entry))) → Put room (now (out .entry)) p (linkText (expression (resolveString (s .r)) (now (address .entry)) .0) (now (text .entry))) (now (out .exit)) r) ⌝ }
 {
-    if address_alone(address, sheet, text, len, room) {
+    if address_alone(address, sheet, text) {
         let r = strings::expression(address, sheet, out, room, p);
         return r.next;
     }
@@ -120,12 +116,11 @@ pub fn link(text: &[u8], at: usize, sheet: &[u8], out: &mut [u8], room: usize, p
             at: i,
         };
     }
-    let m = calls::measure::expression(&text[i..], sheet, room);
-    let e = call_end(text, i + m.used);
+    let n = string_ends::expression_end(&text[i..]);
+    let e = call_end(text, i + n);
     let from = e.from;
     let to = e.to;
-    let size = m.size;
-    let next = put_link(&text[i..], sheet, &text[from..to], size.len, out, room, p);
+    let next = put_link(&text[i..], sheet, &text[from..to], out, room, p);
     Called {
         outcome: Outcome::Output {
             whole: e.whole,

@@ -19,8 +19,9 @@ use Rattle.scan.specs.Sets.{part, plainByte, Spans, Sees}
 use Rattle.buffers.specs.Put.{Writer}
 use Rattle.strings.specs.declared.progress.Progress.{Progress}
 use Rattle.strings.specs.Progress.{Adds, adds-none, adds-then}
-use Rattle.strings.specs.Read.{beginning, Makes, Wrote, Took, IsTerm, Places}
-use Rattle.strings.specs.Text.{LiteralTo, literal-begun, makes-end, makes-quote, makes-last, literal-on, literal-round, reference-round, no-round, ExpressionTo, expression-begun, round-inside, makes-none, makes-plus, expression-on}
+use Rattle.strings.specs.Read.{beginning, Wrote, Took, IsTerm, Places}
+use Rattle.string_ends.specs.Ends.{Makes}
+use Rattle.string_ends.specs.Text.{LiteralTo, literal-begun, makes-end, makes-quote, makes-last, literal-on, literal-round, reference-round, no-round, ExpressionTo, expression-begun, round-inside, makes-none, makes-plus, expression-on}
 
 -- A text that was made, and is added.
 took : {room : ℕ} {o : List ℕ} {r : List ℕ × List ℕ} {t b : List ℕ} {a : Progress} {c : List ℕ} {k : ℕ} {z : Progress} {v : List ℕ} → Makes r t k v → Adds room o b a v c z → Took room o r t b a c k z

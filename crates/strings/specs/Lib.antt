@@ -1,5 +1,4 @@
 pub mod Progress
 pub mod Read
-pub mod Text
 pub mod Laws
 pub mod Paths

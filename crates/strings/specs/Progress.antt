@@ -89,7 +89,7 @@ prefix-append (x ∷ v) w (y ∷ t) = at (eqb x y) (prefix-append v w t)
     at true e = e
     at false e = refl
 
-prefix-fits : (v t : List ℕ) → prefix v t ≡ true → length v ≤ length t
+pub prefix-fits : (v t : List ℕ) → prefix v t ≡ true → length v ≤ length t
 unfolding prefix
 prefix-fits [] t h = omega arith
 prefix-fits (x ∷ v) [] h = absurd (true≢false (sym h))

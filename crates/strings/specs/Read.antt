@@ -1,12 +1,11 @@
 -- What the reading and writing functions promise.
 use mathlib.Core.Path.{_≡_}
-use mathlib.Core.List.{List, _++_}
-use mathlib.Core.Bool.{Bool, true, false}
+use mathlib.Core.List.{List}
+use mathlib.Core.Bool.{Bool}
 use Prim.Native.Nat.{ℕ, _≤_}
 use lib.ListN.{length, drop}
-use Rattle.rules.specs.Reader.{stop}
-use Rattle.rules.specs.Strings.{plus, expressionRound}
 use Rattle.scan.specs.Sets.{part}
+use Rattle.string_ends.specs.Ends.{IsRound}
 use Rattle.buffers.specs.Put.{Put}
 use Rattle.strings.specs.declared.progress.Progress.{Progress}
 use Rattle.strings.specs.Progress.{Adds}
@@ -14,16 +13,6 @@ use Rattle.strings.specs.Progress.{Adds}
 -- A text that begins at p, and is not compared with another.
 unfoldable pub beginning : ℕ → Progress
 beginning p = record { next = p; kept = p; met = 1 }
-
--- r: what a reader made of t, and its rest. It ends behind k bytes.
-pub record Ends (r : List ℕ × List ℕ) (t : List ℕ) (k : ℕ) : Type 0 where
-  pub inside : k ≤ length t
-  pub rest : r .1 ≡ drop k t
-
--- And its text is v.
-pub record Makes (r : List ℕ × List ℕ) (t : List ℕ) (k : ℕ) (v : List ℕ) : Type 0 where
-  pub ends : Ends r t k
-  pub text : r .0 ≡ v
 
 -- v: what a reader made of t, and its rest. k bytes are read, and the text is put at p.
 pub record Wrote (room : ℕ) (v : List ℕ × List ℕ) (t b : List ℕ) (p : ℕ) (c : List ℕ) (k q : ℕ) : Type 0 where
@@ -37,13 +26,7 @@ pub record Took (room : ℕ) (o : List ℕ) (v : List ℕ × List ℕ) (t b : Li
   pub rest : v .1 ≡ drop k t
   pub adds : Adds room o b a (v .0) c z
 
--- A round of an expression up to its `+`, with the text v. Found: reading goes on behind k bytes; else the round stops there.
-pub record IsRound (look : List ℕ → List ℕ) (found : Bool) (t : List ℕ) (k : ℕ) (v : List ℕ) : Type 0 where
-  pub inside : k ≤ length t
-  pub goes : found ≡ true → (u : List ℕ) → expressionRound look u t ≡ plus look (u ++ v) (drop k t)
-  pub stops : found ≡ false → (u : List ℕ) → expressionRound look u t ≡ (stop (u ++ v), drop k t)
-
--- The same, and its text is added to what has come.
+-- A round of an expression up to its `+`, whose text is added to what has come.
 pub record IsTerm (look : List ℕ → List ℕ) (room : ℕ) (o : List ℕ) (found : Bool) (t b : List ℕ) (a : Progress) (c : List ℕ) (k : ℕ) (z : Progress) : Type 0 where
   pub text : List ℕ
   pub round : IsRound look found t k text

@@ -10,7 +10,6 @@ ghost use Rattle.buffers.specs.Put.{Writer, Put};
 ghost use mathlib.Core.Path.{_≡_};
 ghost use Rattle.strings.specs.Read.{beginning, Wrote, Places};
 
-pub mod ends;
 pub mod progress;
 pub mod readers;
 

@@ -3,11 +3,12 @@ use Rattle.link_call.proofs.link.Statement.{statement}
 use Rattle.link_call.proofs.link.Tie as tie
 use Rattle.link_call.proofs.link.Reads as reads
 use Rattle.link_call.proofs.link.Lts as lts
-use Rattle.calls.proofs.measure.expression.Reads as expression-reads
 use Rattle.link_call.proofs.call_end.Reads as call-end-reads
 use Rattle.link_call.proofs.put_link.Reads as put-link-reads
 use Rattle.scan.proofs.at.Reads as at-reads
 use Rattle.scan.proofs.span.Reads as span-reads
+use Rattle.string_ends.proofs.expression_end.Reads as expression-end-reads
+use mathlib.Core.List.{[]}
 use native.Mathlib.Omega.{arith}
 use lib.ListN.{length-take, length-drop}
 use Rattle.buffers.specs.Laws.{put-length}
@@ -22,23 +23,23 @@ at-requires c κs = search needs
 returns : tie.Need-returns
 returns c = λ s. link-back _ (c .before .before .span .ensures) (c .before .at .ensures) (c .if1 .taken)
 
-sub-expression : tie.Need-sub-expression
-sub-expression c = search needs
+sub-expression-end : tie.Need-sub-expression-end
+sub-expression-end c = search needs
 
-part-expression-start : tie.Need-part-expression-start
-part-expression-start c = search needs
+part-expression-end-start : tie.Need-part-expression-end-start
+part-expression-end-start c = search needs
 
-part-expression-end : tie.Need-part-expression-end
-part-expression-end c = search needs
+part-expression-end-end : tie.Need-part-expression-end-end
+part-expression-end-end c = search needs
 
-expression-requires : tie.Need-expression-requires
-expression-requires c κs = (c .before .before .before .before .before .before .before .pre .1 .fits, c .before .before .before .before .before .before .before .pre .3)
+expression-end-requires : tie.Need-expression-end-requires
+expression-end-requires c κs = search needs
 
 add-call-end : tie.Need-add-call-end
-add-call-end c = omega (arith, simp (length-take, length-drop) at (c .before .expression .ensures (c .before .before .before .before .before .before .before .before .before .pre .3) .inside))
+add-call-end c = omega (arith, simp (length-take, length-drop) at (c .expression-end .ensures (λ z. []) .inside))
 
 call-end-requires : tie.Need-call-end-requires
-call-end-requires c κs = omega (arith, simp (length-take, length-drop) at (c .before .expression .ensures (c .before .before .before .before .before .before .before .before .before .pre .3) .inside))
+call-end-requires c κs = omega (arith, simp (length-take, length-drop) at (c .expression-end .ensures (λ z. []) .inside))
 
 sub-put-link : tie.Need-sub-put-link
 sub-put-link c = search needs
@@ -59,13 +60,13 @@ part-put-link-end-2 : tie.Need-part-put-link-end-2
 part-put-link-end-2 c = search needs
 
 put-link-requires : tie.Need-put-link-requires
-put-link-requires c κs = (c .before .before .before .before .before .before .before .before .before .before .before .before .before .before .pre .1, c .before .before .before .before .before .before .before .before .before .before .before .before .before .before .pre .2, c .before .before .before .before .before .before .before .before .before .before .before .before .before .before .pre .3, λ s. c .before .before .before .before .before .before .expression .ensures s .size .len)
+put-link-requires c κs = (c .before .before .before .before .before .before .before .before .before .before .before .before .pre .1, c .before .before .before .before .before .before .before .before .before .before .before .before .pre .2, c .before .before .before .before .before .before .before .before .before .before .before .before .pre .3)
 
 same-length : tie.Need-same-length
-same-length c = put-length (c .before .before .put-link .ensures (c .before .before .before .before .before .before .before .before .before .before .before .before .before .before .before .before .before .pre .3))
+same-length c = put-length (c .before .before .put-link .ensures (c .before .before .before .before .before .before .before .before .before .before .before .before .before .before .before .pre .3))
 
 returns-2 : tie.Need-returns-2
-returns-2 c = λ s. link-put _ (c .before .before .before .before .before .before .before .before .before .before .before .before .before .span .ensures) (c .before .before .before .before .before .before .before .before .before .before .before .before .at .ensures) (c .before .before .before .before .before .before .before .before .before .before .before .if1 .left) (c .before .before .before .before .before .before .before .before .before .expression .ensures s) (c .before .before .before .before .before .before .before .call-end .ensures) (c .before .before .put-link .ensures s)
+returns-2 c = λ s. link-put _ (c .before .before .before .before .before .before .before .before .before .before .before .span .ensures) (c .before .before .before .before .before .before .before .before .before .before .at .ensures) (c .before .before .before .before .before .before .before .before .before .if1 .left) (c .before .before .before .before .before .before .before .expression-end .ensures _) (c .before .before .before .before .before .before .call-end .ensures) (c .before .before .put-link .ensures s)
 
 pub link-spec : {M : Type 1} → statement M
 link-spec =
@@ -74,10 +75,10 @@ link-spec =
     span-requires
     at-requires
     returns
-    sub-expression
-    part-expression-start
-    part-expression-end
-    expression-requires
+    sub-expression-end
+    part-expression-end-start
+    part-expression-end-end
+    expression-end-requires
     add-call-end
     call-end-requires
     sub-put-link

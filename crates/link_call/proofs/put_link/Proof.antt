@@ -12,7 +12,7 @@ use Rattle.buffers.specs.Laws.{put-length, put-writer}
 use Rattle.link_call.specs.Link.{link-alone, link-block}
 
 address-alone-requires : tie.Need-address-alone-requires
-address-alone-requires c κs = (c .before .before .before .before .pre .2, c .before .before .before .before .pre .3)
+address-alone-requires c κs = c .before .before .before .before .pre .2
 
 expression-requires : tie.Need-expression-requires
 expression-requires c κs = (c .before .before .before .before .before .before .before .pre .0, c .before .before .before .before .before .before .before .pre .1, c .before .before .before .before .before .before .before .pre .2)

@@ -7,7 +7,7 @@ use Rattle.strings.proofs.progress.add.Reads as add-reads
 use Rattle.rules.specs.Reader.{the}
 use Rattle.rules.specs.Strings.{escape}
 use Rattle.buffers.specs.Laws.{put-length}
-use Rattle.strings.specs.Text.{escape-both}
+use Rattle.string_ends.specs.Text.{escape-both}
 
 slice-aggregate-add : tie.Need-slice-aggregate-add
 slice-aggregate-add c = search needs

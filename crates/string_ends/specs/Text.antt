@@ -16,7 +16,7 @@ use Rattle.rules.specs.Laws.Enough.{rounds-again, rounds-stop, expression-movin
 use Rattle.scan.specs.Laws.{seen, skip-at, tail-part}
 use Rattle.scan.specs.Stretches.{span-stops}
 use Rattle.scan.specs.Sets.{plainByte, Spans, Sees}
-use Rattle.strings.specs.Read.{Ends, Makes, IsRound}
+use Rattle.string_ends.specs.Ends.{Ends, Makes, IsRound, EndsRound}
 
 -- LITERALS.
 onto-onto : (a b : List ℕ) (r : List ℕ × List ℕ) → onto a (onto b r) ≡ onto (a ++ b) r
@@ -204,11 +204,6 @@ module _ {look : List ℕ → List ℕ} {t : List ℕ} {i : ℕ} {v : List ℕ} 
         let g = goes e ∙ plus-again look t (i + k) j n _ w in
         let z = rounds-again (expressionRound look) (λ a. a) (expression-moving look) v _ (drop i t) (ap (λ y. y .0) g) in
         record { inside = omega (arith, w .there refl); left = x .left ∙ z ∙ ap (λ y. rounds (expressionRound look) (λ a. a) (v ++ u) (y .1)) g }
-
--- A round up to its `+` ends behind k bytes, for every lookup.
-pub record EndsRound (t : List ℕ) (found : Bool) (k : ℕ) : Type 0 where
-  pub text : (List ℕ → List ℕ) → List ℕ
-  pub round : (look : List ℕ → List ℕ) → IsRound look found t k (text look)
 
 -- An expression is read up to i, for every lookup.
 pub record ExpressionEnds (t : List ℕ) (i : ℕ) : Type 0 where

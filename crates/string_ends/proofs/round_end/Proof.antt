@@ -1,15 +1,15 @@
 use borrow.Author.Needs.{needs}
-use Rattle.strings.proofs.ends.round_end.Statement.{statement}
-use Rattle.strings.proofs.ends.round_end.Tie as tie
-use Rattle.strings.proofs.ends.round_end.Reads as reads
-use Rattle.strings.proofs.ends.round_end.Lts as lts
+use Rattle.string_ends.proofs.round_end.Statement.{statement}
+use Rattle.string_ends.proofs.round_end.Tie as tie
+use Rattle.string_ends.proofs.round_end.Reads as reads
+use Rattle.string_ends.proofs.round_end.Lts as lts
 use Rattle.scan.proofs.at.Reads as at-reads
 use Rattle.scan.proofs.sees.Reads as sees-reads
 use Rattle.scan.proofs.span.Reads as span-reads
-use Rattle.strings.proofs.ends.literal_end.Reads as literal-end-reads
+use Rattle.string_ends.proofs.literal_end.Reads as literal-end-reads
 use mathlib.Core.Path.{refl}
 use Rattle.scan.specs.Laws.{sees-the}
-use Rattle.strings.specs.Text.{literal-round, reference-round, no-round}
+use Rattle.string_ends.specs.Text.{literal-round, reference-round, no-round}
 
 span-requires : tie.Need-span-requires
 span-requires c κs = search needs

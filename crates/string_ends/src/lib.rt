@@ -1,9 +1,8 @@
-// Where literals and expressions end. That is the same for every sheet, and is found without their texts.
+// Where literals and expressions end (document 01, section 3): the same for every sheet, and found without their texts.
 ghost use mathlib.Core.List.{List};
 ghost use Prim.Native.Nat.{ℕ};
 ghost use Rattle.rules.specs.Strings.{literal, expression};
-ghost use Rattle.strings.specs.Read.{Ends};
-ghost use Rattle.strings.specs.Text.{EndsRound};
+ghost use Rattle.string_ends.specs.Ends.{Ends, EndsRound};
 
 // Where a literal ends, from behind its quote.
 pub fn literal_end(text: &[u8]) -> usize

@@ -1,12 +1,12 @@
 use borrow.Author.Needs.{needs}
-use Rattle.strings.proofs.ends.literal_end.Statement.{statement}
-use Rattle.strings.proofs.ends.literal_end.Tie as tie
-use Rattle.strings.proofs.ends.literal_end.Reads as reads
-use Rattle.strings.proofs.ends.literal_end.Lts as lts
+use Rattle.string_ends.proofs.literal_end.Statement.{statement}
+use Rattle.string_ends.proofs.literal_end.Tie as tie
+use Rattle.string_ends.proofs.literal_end.Reads as reads
+use Rattle.string_ends.proofs.literal_end.Lts as lts
 use Rattle.scan.proofs.span.Reads as span-reads
 use Prim.Native.Nat.{_-_}
 use lib.ListN.{length}
-use Rattle.strings.specs.Text.{LiteralEnds, literal-begun, makes-end, makes-quote, makes-last, literal-on}
+use Rattle.string_ends.specs.Text.{LiteralEnds, literal-begun, makes-end, makes-quote, makes-last, literal-on}
 
 abbrev Inv-loop : tie.InvT-loop
 Inv-loop text i₀ i = LiteralEnds text i

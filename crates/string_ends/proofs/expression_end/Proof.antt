@@ -1,17 +1,17 @@
 use borrow.Author.Needs.{needs}
-use Rattle.strings.proofs.ends.expression_end.Statement.{statement}
-use Rattle.strings.proofs.ends.expression_end.Tie as tie
-use Rattle.strings.proofs.ends.expression_end.Reads as reads
-use Rattle.strings.proofs.ends.expression_end.Lts as lts
+use Rattle.string_ends.proofs.expression_end.Statement.{statement}
+use Rattle.string_ends.proofs.expression_end.Tie as tie
+use Rattle.string_ends.proofs.expression_end.Reads as reads
+use Rattle.string_ends.proofs.expression_end.Lts as lts
 use Rattle.scan.proofs.at.Reads as at-reads
 use Rattle.scan.proofs.span.Reads as span-reads
-use Rattle.strings.proofs.ends.round_end.Reads as round-end-reads
+use Rattle.string_ends.proofs.round_end.Reads as round-end-reads
 use Prim.Native.Nat.{_-_, _≤_}
 use native.Mathlib.Omega.{arith}
 use borrow.Author.Tests.{not-true, not-false}
 use lib.ListN.{length}
 use Rattle.scan.specs.Laws.{sees-the}
-use Rattle.strings.specs.Text.{ExpressionEnds, expression-begun, ends-inside, makes-none, makes-plus, expression-on}
+use Rattle.string_ends.specs.Text.{ExpressionEnds, expression-begun, ends-inside, makes-none, makes-plus, expression-on}
 
 abbrev Inv-loop : tie.InvT-loop
 Inv-loop text i₀ i = (i ≤ length text) × ExpressionEnds text i
