@@ -22,8 +22,7 @@ use Rattle.raw_arguments.specs.declared.LangRead.{LangRead}
 use Rattle.raw_arguments.specs.declared.Setting.{Setting}
 use Rattle.raw_arguments.specs.declared.Setting.the-variants.{Language, Block, Nothing}
 use Rattle.raw_arguments.specs.declared.Args.{Args}
-use Rattle.calls.specs.declared.measure.Measured.{Measured}
-use Rattle.calls.specs.Measure.{MeasuresRead}
+use Rattle.string_ends.specs.Ends.{Ends}
 
 -- The text of a language: `look` answers the text that a lookup gives; z: the sheet's bytes; t: the text that is read.
 unfoldable pub langText : (List ℕ → List ℕ) → List ℕ → List ℕ → Lang → List ℕ
@@ -82,12 +81,12 @@ pub record IsArguments (look : List ℕ → List ℕ) (z t : List ℕ) (i : ℕ)
 
 -- WHAT `lang` TAKES.
 module _ (look : List ℕ → List ℕ) (z : List ℕ) {t : List ℕ} {i : ℕ} {q : Bool} (s : Sees (byteIs 34) t i q) where
-  pub language-literal : {m : Measured} → q ≡ true → MeasuresRead 0 (literal (part t (i + 1) (length t))) (part t (i + 1) (length t)) m → IsLanguage look z t i (record { lang = Literal (i + 1); at = i + 1 + m .used })
+  pub language-literal : {k : ℕ} → q ≡ true → Ends (literal (part t (i + 1) (length t))) (part t (i + 1) (length t)) k → IsLanguage look z t i (record { lang = Literal (i + 1); at = i + 1 + k })
   unfolding langValue _>>=_ _>>_ ifR ret langText Inside
-  language-literal {m} e w =
+  language-literal {k} e w =
       let h : i < length t = s .there e in
-      let v : MeasuresRead 0 (literal (drop (i + 1) t)) (drop (i + 1) t) m = rw tail-part at w in
-      let r : literal (drop (i + 1) t) .1 ≡ drop (i + 1 + m .used) t = v .rest ∙ drop-drop (m .used) (i + 1) t in
+      let v : Ends (literal (drop (i + 1) t)) (drop (i + 1) t) k = rw tail-part at w in
+      let r : literal (drop (i + 1) t) .1 ≡ drop (i + 1 + k) t = v .rest ∙ drop-drop k (i + 1) t in
       record {
         on = omega arith;
         inside = omega (arith, simp length-drop at (v .inside));

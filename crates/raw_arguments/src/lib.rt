@@ -26,10 +26,10 @@ fn language(text: &[u8], at: usize) -> LangRead
     ensures { λ r. ⌜ ((look : List ℕ → List ℕ) (z : List ℕ) → IsLanguage look z (now (text .entry)) at r) ⌝ }
 {
     if scan::at(text, at, b'"') {
-        let m = calls::measure::literal(&text[at + 1..], 0);
+        let n = string_ends::literal_end(&text[at + 1..]);
         return LangRead {
             lang: Lang::Literal { from: at + 1 },
-            at: at + 1 + m.used,
+            at: at + 1 + n,
         };
     }
     let end = scan::span(text, at, scan::Set::Run);
