@@ -12,8 +12,9 @@ use Rattle.rules.specs.Strings.{reference, plus, expressionRound, expression}
 use Rattle.rules.specs.Laws.Bool.{and-l, and-r, and-i}
 use Rattle.rules.specs.Laws.Sheet.{same-refl, same-eq}
 use Rattle.rules.specs.Laws.Refusals.{Yields, yields-ret, yields-if, yields-bind, yields-then}
+use Rattle.scan.specs.Laws.{prefix-fits}
 use Rattle.strings.specs.declared.progress.Progress.{Progress}
-use Rattle.strings.specs.Progress.{metBehind, met-more, met-same, prefix-fits}
+use Rattle.strings.specs.Progress.{met-more, met-same}
 use Rattle.strings.specs.Read.{Took}
 use Rattle.strings.specs.Laws.{ExpressionAt}
 

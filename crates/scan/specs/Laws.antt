@@ -137,6 +137,20 @@ module _ (p : ℕ → Bool) (t : List ℕ) (at : ℕ) where
       rest = s .rest ∙ r .rest;
     }
 
+-- a mark that stands there is no longer than the text
+pub prefix-fits : (m t : List ℕ) → prefix m t ≡ true → length m ≤ length t
+unfolding prefix
+prefix-fits [] t h = omega arith
+prefix-fits (x ∷ m) [] h = absurd (false≢true h)
+prefix-fits (x ∷ m) (y ∷ t) h = let i = prefix-fits m t (and-r (eqb x y) (prefix m t) h) in omega arith
+
+pub starts-short : (m t : List ℕ) (at : ℕ) → at ≤ length t → length t - at < length m → Starts m t at false
+starts-short m t at h g = record { says = no (prefix m (drop at t)) refl; there = λ e. absurd (false≢true e) }
+  where
+    no : (c : Bool) → prefix m (drop at t) ≡ c → prefix m (drop at t) ≡ false
+    no false e = e
+    no true e = absurd (omega (arith, prefix-fits m (drop at t) e, length-drop at t))
+
 -- i bytes of the mark m stand at `at`
 pub record Matching (m t : List ℕ) (at i : ℕ) : Type 0 where
   pub short : i ≤ length m
@@ -148,10 +162,6 @@ module _ (m t : List ℕ) (at : ℕ) where
   matching-start h = record { short = omega arith; inside = omega arith; same = rw add-zero refl }
 
   module _ (i : ℕ) (s : Matching m t at i) where
-    pub matching-short : i < length m → length t ≤ at + i → Starts m t at false
-    unfolding prefix
-    matching-short h g = record { says = s .same ∙ rw (drop-cons m i 0, drop-of-length-le t g) refl; there = λ e. absurd (false≢true e) }
-
     pub matching-no : i < length m → at + i < length t → (getD m i 0 ≡ getD t (at + i) 0 → ⊥) → Starts m t at false
     unfolding prefix
     matching-no h g n = record { says = s .same ∙ rw (drop-cons m i 0, drop-cons t (at + i) 0, ne-eqb _ _ n) refl; there = λ e. absurd (false≢true e) }

@@ -3,7 +3,7 @@ ghost use mathlib.Core.Path.{_≡_};
 ghost use Prim.Native.Nat.{_+_, _≤_};
 ghost use lib.ListN.{length, take, drop};
 ghost use Rattle.rules.specs.Reader.{all, same};
-ghost use Rattle.rules.specs.Bytes.{ascii};
+ghost use Rattle.rules.specs.Bytes.{ascii, blank, letter, word};
 ghost use Rattle.scan.specs.Sets.{member, byteIs, notByte, Spans, Sees, Starts, Skips};
 
 // The sets of bytes that are scanned for; `member` of specs/Sets says what each holds.
@@ -26,25 +26,41 @@ pub enum Set {
     NotSlash,
 }
 
+// The classes that sets are made of. Each set asks only for what it needs: this is done for every byte that is scanned.
+fn blank(x: u8) -> bool
+    ensures { λ r. ⌜ r ≡ blank x ⌝ }
+{
+    ((9 <= x) & (x <= 13)) | (x == 32)
+}
+
+fn letter(x: u8) -> bool
+    ensures { λ r. ⌜ r ≡ letter x ⌝ }
+{
+    ((65 <= x) & (x <= 90)) | ((97 <= x) & (x <= 122))
+}
+
+fn word(x: u8) -> bool
+    ensures { λ r. ⌜ r ≡ word x ⌝ }
+{
+    letter(x) | ((48 <= x) & (x <= 57)) | (x == 95)
+}
+
 // Is the byte in the set?
 pub fn member(set: Set, x: u8) -> bool
     ensures { λ r. ⌜ r ≡ member set x ⌝ }
 {
-    let blank = ((9 <= x) & (x <= 13)) | (x == 32);
-    let letter = ((65 <= x) & (x <= 90)) | ((97 <= x) & (x <= 122));
-    let word = letter | ((48 <= x) & (x <= 57)) | (x == 95);
     match set {
-        Set::Blank => blank,
-        Set::LineBlank => blank & (x != 10),
-        Set::Letter => letter,
-        Set::Word => word,
-        Set::Name => word | (x == 45),
-        Set::Run => word | (x == 45) | (x == 46),
-        Set::CommaOrBlank => (x == 44) | blank,
-        Set::ColonOrBlank => (x == 58) | blank,
-        Set::EqualsOrLineBlank => (x == 61) | (blank & (x != 10)),
-        Set::EqualsOrBlank => (x == 61) | blank,
-        Set::UnderscoreOrLetter => (x == 95) | letter,
+        Set::Blank => blank(x),
+        Set::LineBlank => blank(x) & (x != 10),
+        Set::Letter => letter(x),
+        Set::Word => word(x),
+        Set::Name => word(x) | (x == 45),
+        Set::Run => word(x) | (x == 45) | (x == 46),
+        Set::CommaOrBlank => (x == 44) | blank(x),
+        Set::ColonOrBlank => (x == 58) | blank(x),
+        Set::EqualsOrLineBlank => (x == 61) | (blank(x) & (x != 10)),
+        Set::EqualsOrBlank => (x == 61) | blank(x),
+        Set::UnderscoreOrLetter => (x == 95) | letter(x),
         Set::Space => x == 32,
         Set::NotParen => x != 41,
         Set::NotQuoteNorBackslash => (x != 34) & (x != 92),
@@ -155,11 +171,11 @@ pub fn starts_with(text: &[u8], at: usize, mark: &[u8]) -> bool
     requires { ⌜ at ≤ length (now text) ⌝ }
     ensures { λ r. ⌜ Starts (now (mark .entry)) (now (text .entry)) at r ⌝ }
 {
+    if text.len() - at < mark.len() {
+        return false;
+    }
     let mut i: usize = 0;
     while i < mark.len() {
-        if text.len() - at <= i {
-            return false;
-        }
         if mark[i] != text[at + i] {
             return false;
         }

@@ -12,7 +12,7 @@ use lib.Seq.{drop-drop, length-take-le}
 use borrow.Author.Tests.{le-leb, lt-leb, ne-eqb}
 use Rattle.rules.specs.Reader.{prefix, same}
 use Rattle.rules.specs.Bytes.{trimEnd}
-use Rattle.rules.specs.Laws.Bool.{and-r}
+use Rattle.scan.specs.Laws.{prefix-fits}
 use Rattle.buffers.specs.Put.{after, Writer, Put}
 use Rattle.buffers.specs.Laws.{after-more, put-none, put-then}
 use Rattle.paths.specs.Paths.{TrimsEnd, trim-append, trim-whole}
@@ -88,12 +88,6 @@ prefix-append (x ∷ v) w (y ∷ t) = at (eqb x y) (prefix-append v w t)
     at : (c : Bool) → prefix (v ++ w) t ≡ (prefix v t && prefix w (drop (length v) t)) → (c && prefix (v ++ w) t) ≡ ((c && prefix v t) && prefix w (drop (length v) t))
     at true e = e
     at false e = refl
-
-pub prefix-fits : (v t : List ℕ) → prefix v t ≡ true → length v ≤ length t
-unfolding prefix
-prefix-fits [] t h = omega arith
-prefix-fits (x ∷ v) [] h = absurd (true≢false (sym h))
-prefix-fits (x ∷ v) (y ∷ t) h = let i = prefix-fits v t (and-r (eqb x y) (prefix v t) h) in omega arith
 
 module _ (o : List ℕ) (m : ℕ) where
   pub met-past : (v : List ℕ) → length o < m → metBehind o m v ≡ m

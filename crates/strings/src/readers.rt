@@ -68,7 +68,14 @@ pub struct Round {
 }
 
 // Reads a round of an expression up to its `+`.
-pub fn term(text: &[u8], sheet: &[u8], other: &[u8], out: &mut [u8], room: usize, a: Progress) -> Round
+pub fn term(
+    text: &[u8],
+    sheet: &[u8],
+    other: &[u8],
+    out: &mut [u8],
+    room: usize,
+    a: Progress,
+) -> Round
     requires { ⌜ Writer room (a .next) × (length (now out) ≤ room) × IsSheet (now sheet) ⌝ }
     ensures { λ r. ⌜ ((s : IsSheet (now (sheet .entry))) → IsTerm (resolveString (s .r)) room (now (other .entry)) (r .found) (now (text .entry)) (now (out .entry)) a (now (out .exit)) (r .used) (r .to)) ⌝ }
 {
