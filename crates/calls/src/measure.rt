@@ -5,7 +5,7 @@ ghost use mathlib.Core.Path.{_≡_};
 ghost use Prim.Native.Nat.{_+_, _^_, _<_};
 ghost use Rattle.rules.specs.Reader.{same};
 ghost use Rattle.rules.specs.Strings.{literal, expression};
-ghost use Rattle.rules.specs.Sheet.{resolveString};
+ghost use Rattle.rules.specs.Sheet.{resolve};
 ghost use Rattle.sheet.specs.Find.{IsSheet};
 ghost use Rattle.calls.specs.Measure.{Measures, MeasuresRead};
 
@@ -50,7 +50,7 @@ pub fn literal(text: &[u8], room: usize) -> Measured
 // An expression.
 pub fn expression(text: &[u8], sheet: &[u8], room: usize) -> Measured
     requires { ⌜ (room + 1 < 2 ^ 64) × IsSheet (now sheet) ⌝ }
-    ensures { λ r. ⌜ ((s : IsSheet (now (sheet .entry))) → MeasuresRead room (expression (resolveString (s .r)) (now (text .entry))) (now (text .entry)) r) ⌝ }
+    ensures { λ r. ⌜ ((s : IsSheet (now (sheet .entry))) → MeasuresRead room (expression (resolve (s .r)) (now (text .entry))) (now (text .entry)) r) ⌝ }
 {
     let mut none = [0u8; 0];
     let r = strings::readers::expression(text, sheet, b"", &mut none, room, strings::begins(0));
@@ -65,7 +65,7 @@ pub fn expression(text: &[u8], sheet: &[u8], room: usize) -> Measured
 // Is an expression's text the same as another text? They are compared while the expression is read.
 pub fn is_text(text: &[u8], sheet: &[u8], other: &[u8]) -> bool
     requires { ⌜ IsSheet (now sheet) ⌝ }
-    ensures { λ r. ⌜ ((s : IsSheet (now (sheet .entry))) → r ≡ same (expression (resolveString (s .r)) (now (text .entry)) .0) (now (other .entry))) ⌝ }
+    ensures { λ r. ⌜ ((s : IsSheet (now (sheet .entry))) → r ≡ same (expression (resolve (s .r)) (now (text .entry)) .0) (now (other .entry))) ⌝ }
 {
     let mut none = [0u8; 0];
     let start = Progress {

@@ -2,7 +2,6 @@
 use mathlib.Core.Path.{_≡_, refl, sym, ap, _∙_}
 use mathlib.Core.List.{List, [], _∷_, _++_, append-assoc, append-nil}
 use mathlib.Core.Bool.{Bool, true, false, not, _&&_, true≢false}
-use mathlib.Core.Option.{Option}
 use Prim.Native.Char.{Char, code}
 use Prim.Native.Nat.{ℕ, suc, _+_, _-_, _≤_, _<_}
 use native.Mathlib.Omega.{arith}
@@ -14,12 +13,10 @@ use Rattle.rules.specs.Reader.{ret, ifR, _>>=_, _>>_, the, but, either, span, r
 use Rattle.rules.specs.Bytes.{word, lineBlank, letter, runByte, underscored}
 use Rattle.rules.specs.Strings.{escape, onto, literalFrom, literal, reference, plus, expressionRound, expression}
 use Rattle.rules.specs.Laws.Enough.{rounds-again, rounds-stop, expression-moving}
-use Rattle.rules.specs.Sheet.{Value, Records, encode, goodRecords, resolve, resolveString, textOf}
+use Rattle.rules.specs.Sheet.{Records, encode, goodRecords, Lookup, resolve, textOf}
 use Rattle.sheet.specs.declared.lookup.Found.{Found}
-use Rattle.sheet.specs.declared.lookup.Found.the-variants.{Text}
-use Rattle.sheet.specs.Parts.{part-slice}
 use Rattle.sheet.specs.Order.{underscoredIf}
-use Rattle.sheet.specs.Find.{IsSheet, Gives, foundText, gives-string}
+use Rattle.sheet.specs.Find.{IsSheet, Gives, Places}
 use Rattle.scan.specs.Laws.{seen, skip-at}
 use Rattle.scan.specs.Laws.{tail-part}
 use Rattle.scan.specs.Stretches.{span-stops}
@@ -27,7 +24,7 @@ use Rattle.scan.specs.Sets.{part, plainByte, Spans, Sees}
 use Rattle.buffers.specs.Put.{Writer}
 use Rattle.strings.specs.declared.progress.Progress.{Progress}
 use Rattle.strings.specs.Progress.{Adds, adds-none, adds-then}
-use Rattle.strings.specs.Read.{beginning, Wrote, Took, IsTerm, Places}
+use Rattle.strings.specs.Read.{beginning, Wrote, Took, IsTerm}
 
 onto-onto : (a b : List ℕ) (r : List ℕ × List ℕ) → onto a (onto b r) ≡ onto (a ++ b) r
 unfolding onto
@@ -135,35 +132,19 @@ module _ {room : ℕ} {o t b : List ℕ} {a : Progress} (l : length b ≤ room) 
         left = rw add-two (passed .left ∙ ap (onto (passed .text)) (slash h x ∙ g) ∙ onto-onto (passed .text) _ _);
       }
 
--- REFERENCES. What a lookup found, as a text.
-text-places : {s : List ℕ} (x : Option Value) {f : Found} {a b : ℕ} → Gives s x f → f ≡ Text a b → Places s (textOf x) a b
-unfolding Gives textOf
-text-places {s} x g e =
-    let h = rw e at g in
-    record { on = omega (arith, h .2 .ends); inside = h .2 .inside; text = part-slice (h .2) ∙ sym (ap textOf (h .1)) }
-
-module _ (s run : List ℕ) (f : Found) (told : (r : Records) → s ≡ encode r → goodRecords r word 6 ≡ true → Gives s (resolve r (underscoredIf true run)) f) (i : IsSheet s) where
-  -- What it gives for the sheet's records.
-  gives-run : Gives s (resolve (i .r) (underscored run)) f
-  unfolding underscoredIf
-  gives-run = told (i .r) (i .bytes) (i .good)
-
-  pub places-text : {x y : ℕ} → f ≡ Text x y → Places s (resolveString (i .r) (underscored run)) x y
-  unfolding resolveString
-  places-text e = text-places _ gives-run e
-
-  pub places-none : {g : Found} → f ≡ g → foundText s g ≡ [] → Places s (resolveString (i .r) (underscored run)) 0 0
-  unfolding resolveString
-  places-none {g} e k = record { on = omega arith; inside = omega arith; text = sym (sym (gives-string s _ f gives-run) ∙ ap (foundText s) e ∙ k) }
+-- REFERENCES. What the lookup of a run gives for the sheet's records.
+pub gives-run : (s run : List ℕ) (f : Found) → ((r : Records) → s ≡ encode r → goodRecords r word 6 ≡ true → Gives s (resolve r (underscoredIf true run)) f) → (i : IsSheet s) → Gives s (resolve (i .r) (underscored run)) f
+unfolding underscoredIf
+gives-run s run f told i = told (i .r) (i .bytes) (i .good)
 
 -- EXPRESSIONS. A round of one, by what the scans said.
-module _ (look : List ℕ → List ℕ) (t : List ℕ) (i : ℕ) (l : Spans lineBlank t 0 i) where
+module _ (look : Lookup) (t : List ℕ) (i : ℕ) (l : Spans lineBlank t 0 i) where
   round-literal : (k : ℕ) (a : List ℕ) → Sees (the "\"") t i true → literal (drop (i + 1) t) .1 ≡ drop k t → expressionRound look a t ≡ plus look (a ++ literal (drop (i + 1) t) .0) (drop k t)
   unfolding expressionRound _>>=_ _>>_ ifR
   round-literal k a q e = rw (l .rest, q .says, skip-at t i (q .there refl), e) refl
 
   round-reference : (k : ℕ) (a : List ℕ) → Sees (the "\"") t i false → Sees (either "_" letter) t i true → Spans runByte t i k →
-      expressionRound look a t ≡ plus look (a ++ look (underscored (take (k - i) (drop i t)))) (drop k t)
+      expressionRound look a t ≡ plus look (a ++ textOf (look (underscored (take (k - i) (drop i t))))) (drop k t)
   unfolding expressionRound reference _>>=_ _>>_ ifR ret
   round-reference k a q n r = rw (l .rest, q .says, n .says, r .took, r .rest) refl
 
@@ -172,7 +153,7 @@ module _ (look : List ℕ → List ℕ) (t : List ℕ) (i : ℕ) (l : Spans line
   round-stop a q n = rw (l .rest, q .says, n .says) refl
 
 -- Behind a term.
-module _ (look : List ℕ → List ℕ) (t : List ℕ) (i j : ℕ) (l : Spans lineBlank t i j) where
+module _ (look : Lookup) (t : List ℕ) (i j : ℕ) (l : Spans lineBlank t i j) where
   plus-again : (a : List ℕ) → Sees (the "+") t j true → plus look a (drop i t) ≡ (again a, drop (j + 1) t)
   unfolding plus _>>=_ _>>_ ifR ret
   plus-again a q = rw (l .rest, q .says, skip-at t j (q .there refl)) refl
@@ -182,7 +163,7 @@ module _ (look : List ℕ → List ℕ) (t : List ℕ) (i j : ℕ) (l : Spans li
   plus-stop a q = rw (l .rest, q .says) refl
 
 -- The ways through a round.
-module _ (look : List ℕ → List ℕ) {room : ℕ} {o t : List ℕ} {i : ℕ} (l : Spans lineBlank t 0 i) {f : Bool} (q : Sees (the "\"") t i f) {b : List ℕ} {a : Progress} where
+module _ (look : Lookup) {room : ℕ} {o t : List ℕ} {i : ℕ} (l : Spans lineBlank t 0 i) {f : Bool} (q : Sees (the "\"") t i f) {b : List ℕ} {a : Progress} where
   pub term-literal : {c : List ℕ} {k : ℕ} {r : Progress} → f ≡ true → Took room o (literal (take (length t - (i + 1)) (drop (i + 1) t))) (take (length t - (i + 1)) (drop (i + 1) t)) b a c k r → IsTerm look room o true t b a c (i + 1 + k) r
   term-literal {c} {k} {r} e w =
       let h : i < length t = q .there e in
@@ -197,10 +178,10 @@ module _ (look : List ℕ → List ℕ) {room : ℕ} {o t : List ℕ} {i : ℕ} 
       }
 
   module _ {g : Bool} (e : f ≡ false) (n : Sees (either "_" letter) t i g) where
-    pub term-reference : {c : List ℕ} {k : ℕ} {r : Progress} {s : List ℕ} {x y : ℕ} → g ≡ true → Spans runByte t i k → Places s (look (underscored (take (k - i) (drop i t)))) x y → Adds room o b a (part s x y) c r → IsTerm look room o true t b a c k r
+    pub term-reference : {c : List ℕ} {k : ℕ} {r : Progress} {s : List ℕ} {x y : ℕ} → g ≡ true → Spans runByte t i k → Places s (textOf (look (underscored (take (k - i) (drop i t))))) x y → Adds room o b a (part s x y) c r → IsTerm look room o true t b a c k r
     term-reference {c} {k} {r} d m h u = record {
       inside = m .inside;
-      text = look (underscored (take (k - i) (drop i t)));
+      text = textOf (look (underscored (take (k - i) (drop i t))));
       adds = rw (h .text) at u;
       goes = λ v z. round-reference look t i l k z (seen q e) (seen n d) m;
       stops = λ v z. absurd (true≢false v);
@@ -216,17 +197,17 @@ module _ (look : List ℕ → List ℕ) {room : ℕ} {o t : List ℕ} {i : ℕ} 
     }
 
 -- An expression is read up to i.
-pub record ExpressionAt (look : List ℕ → List ℕ) (room : ℕ) (o t b : List ℕ) (a : Progress) (c : List ℕ) (z : Progress) (i : ℕ) : Type 0 where
+pub record ExpressionAt (look : Lookup) (room : ℕ) (o t b : List ℕ) (a : Progress) (c : List ℕ) (z : Progress) (i : ℕ) : Type 0 where
   pub inside : i ≤ length t
   pub text : List ℕ
   pub adds : Adds room o b a text c z
   pub left : expression look t ≡ rounds (expressionRound look) (λ a. a) text (drop i t)
 
-pub expression-start : (look : List ℕ → List ℕ) {room : ℕ} {a : Progress} → Writer room (a .next) → (o t b : List ℕ) → ExpressionAt look room o t b a b a 0
+pub expression-start : (look : Lookup) {room : ℕ} {a : Progress} → Writer room (a .next) → (o t b : List ℕ) → ExpressionAt look room o t b a b a 0
 unfolding expression
 expression-start look w o t b = record { inside = omega arith; text = []; adds = adds-none w o b; left = refl }
 
-module _ {look : List ℕ → List ℕ} {room : ℕ} {o t b : List ℕ} {a : Progress} (l : length b ≤ room) {c : List ℕ} {z : Progress} {i : ℕ} (x : ExpressionAt look room o t b a c z i) where
+module _ {look : Lookup} {room : ℕ} {o t b : List ℕ} {a : Progress} (l : length b ≤ room) {c : List ℕ} {z : Progress} {i : ℕ} (x : ExpressionAt look room o t b a c z i) where
   expression-done : {k : ℕ} {d : List ℕ} {r : Progress} (v : List ℕ) → k ≤ length t → Adds room o c z v d r → expressionRound look (x .text) (drop i t) ≡ (stop (x .text ++ v), drop k t) → Took room o (expression look t) t b a d k r
   expression-done v h u e =
       let w = x .left ∙ rounds-stop (expressionRound look) (λ a. a) (expression-moving look) (x .text) _ (drop i t) (ap (λ y. y .0) e) ∙ ap (λ y. (x .text ++ v, y .1)) e in

@@ -5,8 +5,8 @@ use mathlib.Core.Bool.{Bool, true, false}
 use Prim.Native.Nat.{ℕ, _≤_}
 use lib.ListN.{length, drop}
 use Rattle.rules.specs.Reader.{stop}
+use Rattle.rules.specs.Sheet.{Lookup}
 use Rattle.rules.specs.Strings.{plus, expressionRound}
-use Rattle.scan.specs.Sets.{part}
 use Rattle.buffers.specs.Put.{Put}
 use Rattle.strings.specs.declared.progress.Progress.{Progress}
 use Rattle.strings.specs.Progress.{Adds}
@@ -28,15 +28,9 @@ pub record Took (room : ℕ) (o : List ℕ) (v : List ℕ × List ℕ) (t b : Li
   pub adds : Adds room o b a (v .0) c z
 
 -- A round of an expression up to its `+`. Found: a text is added and reading goes on behind k bytes; else the round stops there.
-pub record IsTerm (look : List ℕ → List ℕ) (room : ℕ) (o : List ℕ) (found : Bool) (t b : List ℕ) (a : Progress) (c : List ℕ) (k : ℕ) (z : Progress) : Type 0 where
+pub record IsTerm (look : Lookup) (room : ℕ) (o : List ℕ) (found : Bool) (t b : List ℕ) (a : Progress) (c : List ℕ) (k : ℕ) (z : Progress) : Type 0 where
   pub inside : k ≤ length t
   pub text : List ℕ
   pub adds : Adds room o b a text c z
   pub goes : found ≡ true → (v : List ℕ) → expressionRound look v t ≡ plus look (v ++ text) (drop k t)
   pub stops : found ≡ false → (v : List ℕ) → expressionRound look v t ≡ (stop (v ++ text), drop k t)
-
--- The text v lies in the sheet s, from x to y.
-pub record Places (s v : List ℕ) (x y : ℕ) : Type 0 where
-  pub on : x ≤ y
-  pub inside : y ≤ length s
-  pub text : part s x y ≡ v
