@@ -34,7 +34,7 @@ pub record Holds (n len : ℕ) (buffer : List ℕ) : Type 0 where
   pub fits : len ≤ n
   pub behind : drop len buffer ≡ zeros (n - len)
 
--- LOOKUP (E1): 3, 6, then 11 for a text that is too long. Its answer: missing, none, a dictionary, or a text with its length and bytes.
+-- LOOKUP (E1): 3, 6, then 11 where a text is too long. It answers missing, none, a dictionary, or a text with its length and bytes.
 -- n: the length of `out`.
 pub record Looked : Type 0 where
   pub number : ℕ
@@ -55,17 +55,6 @@ resolveResult sheet path n = do
 
 unfoldable pub resolveOf : List ℕ → List ℕ → ℕ → Looked
 resolveOf sheet path n = lookedAnswer n (resolveResult sheet path n)
-
--- An answer with one output buffer.
-pub record Output : Type 0 where
-  pub number : ℕ
-  pub len : ℕ
-  pub out : List ℕ
-
--- n: the buffer's length.
-unfoldable pub outputAnswer : ℕ → Answer (List ℕ) → Output
-outputAnswer n (refused k) = record { number = k; len = 0; out = zeros n }
-outputAnswer n (accepted o) = record { number = 0; len = length o; out = padded n o }
 
 -- FIND A FILE (not in 01: `manual` needs it): 2, 4. Kind: 0 absent, 1 folder, 2 file; a file's content stands at `start` in the bundle.
 pub record Found : Type 0 where
@@ -93,6 +82,15 @@ unfoldable pub findFileOf : List ℕ → List ℕ → Found
 findFileOf bundle path = foundAnswer (findFileResult bundle path)
 
 -- INCLUDES alone: 2, 4, 6, then in reading; a short output is 11. n: the length of `out`.
+pub record Output : Type 0 where
+  pub number : ℕ
+  pub len : ℕ
+  pub out : List ℕ
+
+unfoldable pub outputAnswer : ℕ → Answer (List ℕ) → Output
+outputAnswer n (refused k) = record { number = k; len = 0; out = zeros n }
+outputAnswer n (accepted o) = record { number = 0; len = length o; out = padded n o }
+
 unfoldable pub resolveIncludesResult : List ℕ → List ℕ → List ℕ → ℕ → Answer (List ℕ)
 resolveIncludesResult bundle folder text n = do
   es ← orRefuse 2 (bundleOf bundle)

@@ -215,7 +215,7 @@ unfoldable pub copyStep : Step Records
 copyStep s [] = (binds s, [])
 copyStep s (x ∷ xs) = (writes s (x ∷ []), xs)
 
--- At each place, in this order, prefixes only. Every step asks the sheet by the one lookup (E1).
+-- At each place, in this order, prefixes only. What the steps look up, they ask of one lookup (E1).
 unfoldable pub expansionStep : View → Step Records
 expansionStep v s = let look = resolve s in do
   i ← mark (bytes "#import")

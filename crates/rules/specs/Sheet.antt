@@ -131,7 +131,7 @@ unfoldable mutual
 unfoldable pub sheetOf : List ℕ → Option Records
 sheetOf b = bind (decode b) (λ r. elim (goodRecords r word 6 && leb (length b) 65535) [ true ↦ some r | false ↦ none ])
 
--- LOOKUP of a text: missing (`none`), none, a dictionary, or a text. Sections 3, 5 and 7 ask the sheet by a lookup alone (E1).
+-- LOOKUP: what a text is found as: missing (`none`), none, a dictionary, or a text. Sections 3, 5 and 7 know names by a lookup alone (E1).
 abbrev pub Lookup : Type 0
 Lookup = List ℕ → Option Value
 
