@@ -104,9 +104,10 @@ fn readings() -> Vec<Case> {
     all
 }
 
-/// Every length of the buffer, up to ones that suffice.
+/// Every length of the buffer, up to ones that suffice; and a text whose length does not fit into a byte.
 fn rooms() -> Vec<Case> {
-    (0..5).map(|room| case(&sheets()[1], b"x", room)).collect()
+    let long = sheet::encode(&tree(vec![("x", text(&"v".repeat(300)))])).expect("a sheet");
+    (0..5).map(|room| case(&sheets()[1], b"x", room)).chain(around(&long, "x")).collect()
 }
 
 /// What E1 tells apart, under a name, a key, the empty name and the empty key: each value that there is, and none at all. Into no bytes, one
