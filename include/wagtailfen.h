@@ -24,24 +24,17 @@
 extern "C" {
 #endif
 
-/* What a path names in a sheet. kind: 0 missing, 1 none, 2 text, 3 dictionary. */
+/* What a path names in a sheet. kind: 0 missing, 1 none, 2 text, 3 dictionary. A text is the first len bytes of out, and 0 behind them; for
+ * another kind len is 0, and so is every byte of out. An empty text and a missing name differ in kind alone. */
 struct wf_resolved {
     uint8_t number;
     uint8_t kind;
-};
-
-/* Refusals 3, 6. */
-struct wf_resolved wf_resolve(const uint8_t *sheet, size_t sheet_len, const uint8_t *path, size_t path_len);
-
-/* A text that a call writes: the first len bytes of out, and 0 behind them. */
-struct wf_text {
-    uint8_t number;
     size_t len;
 };
 
-/* The text that a path names in a sheet, empty unless its kind is text. Refusals 3, 6, 11. */
-struct wf_text wf_resolve_string(const uint8_t *sheet, size_t sheet_len, const uint8_t *path, size_t path_len,
-                                 uint8_t *out, size_t out_len);
+/* Refusals 3, 6, and 11 for a text longer than out: any other kind fits into 0 bytes. */
+struct wf_resolved wf_resolve(const uint8_t *sheet, size_t sheet_len, const uint8_t *path, size_t path_len,
+                              uint8_t *out, size_t out_len);
 
 /* What a path is in a bundle. kind: 0 absent, 1 folder, 2 file. A file's content is the len bytes at start in the bundle;
  * otherwise start and len are 0. */
@@ -54,6 +47,12 @@ struct wf_found {
 
 /* Refusals 2, 4. */
 struct wf_found wf_find_file(const uint8_t *bundle, size_t bundle_len, const uint8_t *path, size_t path_len);
+
+/* A text that a call writes: the first len bytes of out, and 0 behind them. */
+struct wf_text {
+    uint8_t number;
+    size_t len;
+};
 
 /* The text with its marks #include and #source-include resolved from the files of the bundle. folder is the folder of the
  * bundle where the text stands, or empty. Refusals 2, 4, 6 for the arguments; then whichever comes first in reading: 11 for

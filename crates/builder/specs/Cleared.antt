@@ -6,9 +6,9 @@ use native.Mathlib.Nat.{sub-zero}
 use lib.ListN.{length, take}
 use Rattle.rules.specs.Answer.{Answer}
 use Rattle.rules.specs.Sheet.{Records}
-use Rattle.rules.specs.Calls.{zeros, padded, resolveStringOf, resolveIncludesOf, preprocessTypstOf, definedAnswer, passOf}
-use Rattle.lookups.specs.declared.Given.{Given}
-use Rattle.lookups.specs.Text.{GivesText}
+use Rattle.rules.specs.Calls.{zeros, padded, resolveOf, resolveIncludesOf, preprocessTypstOf, definedAnswer, passOf}
+use Rattle.lookups.specs.declared.Resolved.{Resolved}
+use Rattle.lookups.specs.Text.{Resolves}
 use Rattle.runs.specs.declared.Outcome.{Outcome}
 use Rattle.runs.specs.Includes.{ResolvesText}
 use Rattle.runs.specs.Expansion.{ExpandsText}
@@ -24,9 +24,9 @@ all-zero : {m : ℕ} (o₂ : List ℕ) {o₃ : List ℕ} → length o₂ ≡ m �
 unfolding padded
 all-zero o₂ e h = sym (h ∙ simp sub-zero (ap zeros e))
 
-pub string-cleared : {s p o o₂ o₃ : List ℕ} {r : Given} → GivesText s p o o₂ r → o₃ ≡ padded (length o₂) (take (r .len) o₂) →
-    resolveStringOf s p (length o) ≡ record { number = r .number; len = r .len; out = o₃ }
-string-cleared {o₂ = o₂} {r = r} p x = p .is ∙ λ i. record { number = r .number; len = r .len; out = behind o₂ (r .len) (p .size) x i }
+pub lookup-cleared : {s p o o₂ o₃ : List ℕ} {r : Resolved} → Resolves s p o o₂ r → o₃ ≡ padded (length o₂) (take (r .len) o₂) →
+    resolveOf s p (length o) ≡ record { number = r .number; kind = r .kind; len = r .len; out = o₃ }
+lookup-cleared {o₂ = o₂} {r = r} p x = p .is ∙ λ i. record { number = r .number; kind = r .kind; len = r .len; out = behind o₂ (r .len) (p .size) x i }
 
 pub includes-cleared : {b g t o o₂ o₃ : List ℕ} {r : Outcome} → ResolvesText b g t o o₂ r → o₃ ≡ padded (length o₂) (take (r .len) o₂) →
     resolveIncludesOf b g t (length o) ≡ record { number = r .number; len = r .len; out = o₃ }

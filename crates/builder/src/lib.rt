@@ -2,13 +2,14 @@
 // the answer, and the whole contents of every writable buffer, accepted and refused alike.
 ghost use mathlib.Core.Path.{_≡_};
 ghost use lib.ListN.{length};
-ghost use Rattle.rules.specs.Calls.{resolveOf, resolveStringOf, resolveIncludesOf, preprocessTypstOf, parseDefinitionsOf, passOf, findFileOf};
+ghost use Rattle.rules.specs.Calls.{resolveOf, resolveIncludesOf, preprocessTypstOf, parseDefinitionsOf, passOf, findFileOf};
 
-// A lookup's answer. Kind: 0 missing, 1 none, 2 text, 3 dictionary.
+// A lookup's answer. Kind: 0 missing, 1 none, 2 text, 3 dictionary. Of a text, its length in the output buffer; else 0.
 #[repr(C)]
 pub struct Resolved {
     pub number: u8,
     pub kind: u8,
+    pub len: usize,
 }
 
 // A text's answer: its length in the output buffer.
@@ -18,26 +19,16 @@ pub struct Text {
     pub len: usize,
 }
 
-// What a text in a sheet is looked up as: 3, 6.
-pub fn resolve(sheet: &[u8], path: &[u8]) -> Resolved
-    ensures { λ r. ⌜ resolveOf (now (sheet .entry)) (now (path .entry)) ≡ record { number = r .number; kind = r .kind } ⌝ }
+// What a text in a sheet is looked up as: 3, 6, 11 (E1).
+pub fn resolve(sheet: &[u8], path: &[u8], out: &mut [u8]) -> Resolved
+    ensures { λ r. ⌜ resolveOf (now (sheet .entry)) (now (path .entry)) (length (now (out .entry))) ≡ record { number = r .number; kind = r .kind; len = r .len; out = now (out .exit) } ⌝ }
 {
-    let r = lookups::resolve(sheet, path);
+    let r = lookups::resolve(sheet, path, out);
+    buffers::clear_from(out, r.len);
     Resolved {
         number: r.number,
         kind: r.kind,
-    }
-}
-
-// The text that a text in a sheet is looked up as: 3, 6, 11.
-pub fn resolve_string(sheet: &[u8], path: &[u8], out: &mut [u8]) -> Text
-    ensures { λ r. ⌜ resolveStringOf (now (sheet .entry)) (now (path .entry)) (length (now (out .entry))) ≡ record { number = r .number; len = r .len; out = now (out .exit) } ⌝ }
-{
-    let given = lookups::resolve_string(sheet, path, out);
-    buffers::clear_from(out, given.len);
-    Text {
-        number: given.number,
-        len: given.len,
+        len: r.len,
     }
 }
 

@@ -8,6 +8,7 @@ use native.Mathlib.Nat.{zero-add}
 use lib.Dec.{eqb}
 use lib.ListN.{length, drop}
 use Rattle.rules.specs.Reader.{ret, ifR, _>>=_, _>>_, prefix, same, Turn, again, stop, loop, rounds}
+use Rattle.rules.specs.Sheet.{Lookup}
 use Rattle.rules.specs.Strings.{reference, plus, expressionRound, expression}
 use Rattle.rules.specs.Laws.Bool.{and-l, and-r, and-i}
 use Rattle.rules.specs.Laws.Sheet.{same-refl, same-eq}
@@ -37,7 +38,7 @@ prefix-self : (v : List ℕ) → prefix v v ≡ true
 unfolding same
 prefix-self v = and-r (eqb (length v) (length v)) (prefix v v) (same-refl v)
 
-module _ (look : List ℕ → List ℕ) (v : List ℕ) where
+module _ (look : Lookup) (v : List ℕ) where
   begins : Turn (List ℕ) (List ℕ) → Bool
   begins (again u) = prefix v u
   begins (stop u) = prefix v u
@@ -61,7 +62,7 @@ module _ (look : List ℕ → List ℕ) (v : List ℕ) where
   loop-begins (suc n) u t h = loop-at n u t (expressionRound look u t .0) refl (round-begins u h .yields t) (loop-begins n)
 
 -- Past o, what has come differs from it, and so does the whole.
-pub differs : {look : List ℕ → List ℕ} {o t b c : List ℕ} {z : Progress} {i : ℕ} → ExpressionAt look 0 o t b start c z i → length o < z .met → false ≡ same (expression look t .0) o
+pub differs : {look : Lookup} {o t b c : List ℕ} {z : Progress} {i : ℕ} → ExpressionAt look 0 o t b start c z i → length o < z .met → false ≡ same (expression look t .0) o
 unfolding rounds
 differs {look} {o} {t} {z = z} {i = i} x h = at (same (expression look t .0) o) refl
   where

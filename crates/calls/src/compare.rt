@@ -4,13 +4,13 @@ use strings::readers::term;
 ghost use mathlib.Core.Path.{_≡_};
 ghost use Rattle.rules.specs.Reader.{same};
 ghost use Rattle.rules.specs.Strings.{expression};
-ghost use Rattle.rules.specs.Sheet.{resolveString};
+ghost use Rattle.rules.specs.Sheet.{resolve};
 ghost use Rattle.sheet.specs.Find.{IsSheet};
 
 // Is an expression's text the same as another text? They are compared while the expression is read, up to the first term that differs.
 pub fn is_text(text: &[u8], sheet: &[u8], other: &[u8]) -> bool
     requires { ⌜ IsSheet (now sheet) ⌝ }
-    ensures { λ r. ⌜ ((s : IsSheet (now (sheet .entry))) → r ≡ same (expression (resolveString (s .r)) (now (text .entry)) .0) (now (other .entry))) ⌝ }
+    ensures { λ r. ⌜ ((s : IsSheet (now (sheet .entry))) → r ≡ same (expression (resolve (s .r)) (now (text .entry)) .0) (now (other .entry))) ⌝ }
 {
     let mut none = [0u8; 0];
     let mut i: usize = 0;

@@ -2,7 +2,7 @@
 use paths::trim_end;
 ghost use Prim.Native.Nat.{_+_, _^_, _<_};
 ghost use Rattle.rules.specs.Strings.{literal, expression};
-ghost use Rattle.rules.specs.Sheet.{resolveString};
+ghost use Rattle.rules.specs.Sheet.{resolve};
 ghost use Rattle.sheet.specs.Find.{IsSheet};
 ghost use Rattle.calls.specs.Measure.{Measures, MeasuresRead};
 
@@ -47,7 +47,7 @@ pub fn literal(text: &[u8], room: usize) -> Measured
 // An expression.
 pub fn expression(text: &[u8], sheet: &[u8], room: usize) -> Measured
     requires { ⌜ (room + 1 < 2 ^ 64) × IsSheet (now sheet) ⌝ }
-    ensures { λ r. ⌜ ((s : IsSheet (now (sheet .entry))) → MeasuresRead room (expression (resolveString (s .r)) (now (text .entry))) (now (text .entry)) r) ⌝ }
+    ensures { λ r. ⌜ ((s : IsSheet (now (sheet .entry))) → MeasuresRead room (expression (resolve (s .r)) (now (text .entry))) (now (text .entry)) r) ⌝ }
 {
     let mut none = [0u8; 0];
     let r = strings::readers::expression(text, sheet, b"", &mut none, room, strings::begins(0));

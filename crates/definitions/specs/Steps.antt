@@ -10,7 +10,7 @@ use Rattle.rules.specs.Answer.{Answer, refused, accepted}
 use Rattle.rules.specs.Reader.{ret, ifR, _>>=_, _>>_, bytes, either, all, mark, prefix}
 use Rattle.rules.specs.Run.{ok, fail, Did}
 use Rattle.rules.specs.Bytes.{ascii, blank, word, nameByte, underscored}
-use Rattle.rules.specs.Sheet.{Value, Records, encode, sheetLength, goodRecords, set}
+use Rattle.rules.specs.Sheet.{Value, Records, encode, sheetLength, goodRecords, resolve, set}
 use Rattle.rules.specs.Definitions.{Names, value, dictionaryValue, bound, letBound, letStep, definitionStep}
 use Rattle.rules.specs.Laws.Bool.{and-r}
 use Rattle.rules.specs.Laws.Texts.{all-right}
@@ -56,14 +56,14 @@ good-let : (L : ℕ) (i : Records → List ℕ → Names → Answer Records) (s 
 unfolding definitionStep letStep mark prefix ifR _>>=_ _>>_ all ascii didHas numberedOr same
 good-let L i s t a g =
     let d = letStep L i s t .0 in
-    and-r (numberedE (d .emit)) (goodRecords (d .state) word 6) (reads-definition L same (λ s p n h. h) s g .reads (bytes "#let" ++ t) a .answer)
+    and-r (numberedE (d .emit)) (goodRecords (d .state) word 6) (reads-definition L same (λ s p n h k. h) s g .reads (bytes "#let" ++ t) a .answer)
 
 module _ (limit : ℕ) {t : List ℕ} {at a b e : ℕ} (X : Spans blank t at a) (Y : Spans nameByte t a b) (Z : Spans (either "=" blank) t b e) where
-  let-reads : (i : Records → List ℕ → Names → Answer Records) (s : Records) → letStep limit i s (drop at t) ≡ (letBound s (underscored (part t a b)) (value limit s (dictionaryValue limit s 6) (drop e t) .0), value limit s (dictionaryValue limit s 6) (drop e t) .1)
+  let-reads : (i : Records → List ℕ → Names → Answer Records) (s : Records) → letStep limit i s (drop at t) ≡ (letBound s (underscored (part t a b)) (value limit (resolve s) (dictionaryValue limit (resolve s) 6) (drop e t) .0), value limit (resolve s) (dictionaryValue limit (resolve s) 6) (drop e t) .1)
   unfolding letStep _>>=_ _>>_ ret
   let-reads i s = rw (X .rest, Y .rest, Y .took, Z .rest) refl
 
-  module _ {l : List ℕ} {n : ℕ} {w w₂ : List ℕ} {v : ValueRead} (R : ReadsValue limit (λ s. value limit s (dictionaryValue limit s 6)) t e (take n l) w w₂ v) where
+  module _ {l : List ℕ} {n : ℕ} {w w₂ : List ℕ} {v : ValueRead} (R : ReadsValue limit (λ look. value limit look (dictionaryValue limit look 6)) t e (take n l) w w₂ v) where
     pub let-no : v .ok ≡ false → DefinesLet limit t at l n l (record { ok = false; number = v .number; at = v .at; len = n; last = 0 })
     unfolding letBound bound
     let-no h = record {
@@ -78,7 +78,7 @@ module _ (limit : ℕ) {t : List ℕ} {at a b e : ℕ} (X : Spans blank t at a) 
     }
 
     module _ (h : v .ok ≡ true) where
-      taken : {s : Records} (g : Holds s l n limit) → Taken (value limit s (dictionaryValue limit s 6) (drop e t)) t w₂ v
+      taken : {s : Records} (g : Holds s l n limit) → Taken (value limit (resolve s) (dictionaryValue limit (resolve s) 6) (drop e t)) t w₂ v
       taken g = R .goes (holds-sheet g) h
 
       -- What is bound.

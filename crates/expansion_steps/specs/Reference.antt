@@ -9,7 +9,7 @@ use lib.ListN.{length, drop}
 use Rattle.rules.specs.Reader.{ret, ifR, _>>=_, bytes, the}
 use Rattle.rules.specs.Run.{ok, put}
 use Rattle.rules.specs.Bytes.{letter, runByte, underscored}
-use Rattle.rules.specs.Sheet.{Records, resolveString}
+use Rattle.rules.specs.Sheet.{Records, resolve, textOf}
 use Rattle.rules.specs.Expansion.{writes, referenceStep}
 use Rattle.scan.specs.Sets.{part, Spans, Sees}
 use Rattle.sheet.specs.Find.{IsSheet}
@@ -21,7 +21,7 @@ use Rattle.expansion_steps.specs.declared.WriteStep.{WriteStep}
 -- The step writes a text, and keeps the records.
 pub record Puts (t : List ℕ) (at : ℕ) (s : Records) (full room : ℕ) (b : List ℕ) (p : ℕ) (c : List ℕ) (r : WriteStep) : Type 0 where
   pub text : List ℕ
-  pub does : referenceStep s (drop at t) ≡ (writes s text, drop (r .at) t)
+  pub does : referenceStep (resolve s) s (drop at t) ≡ (writes s text, drop (r .at) t)
   pub emits : Emits full room (put text ok) b p c (r .ok) (r .number) (r .next)
 
 -- `#` and what is behind it, from `at` on, for the sheet z: reading goes on at r .at.
@@ -34,16 +34,16 @@ pub record Refers (t : List ℕ) (at : ℕ) (z : List ℕ) (full room : ℕ) (b 
 
 -- LAWS. The step, by what the scans said.
 module _ (s : Records) {t : List ℕ} {at : ℕ} {l : Bool} (x : Sees letter t at l) where
-  step-other : l ≡ false → referenceStep s (drop at t) ≡ (writes s (bytes "#"), drop at t)
+  step-other : l ≡ false → referenceStep (resolve s) s (drop at t) ≡ (writes s (bytes "#"), drop at t)
   unfolding referenceStep ret ifR _>>=_
   step-other e = rw (x .says, e) refl
 
   module _ (h : l ≡ true) {e : ℕ} (y : Spans runByte t at e) {f : Bool} (k : Sees (the "(") t e f) where
-    step-called : f ≡ true → referenceStep s (drop at t) ≡ (writes s (bytes "#" ++ part t at e), drop e t)
+    step-called : f ≡ true → referenceStep (resolve s) s (drop at t) ≡ (writes s (bytes "#" ++ part t at e), drop e t)
     unfolding referenceStep ret ifR _>>=_
     step-called g = rw (x .says, h, y .rest, y .took, k .says, g) refl
 
-    step-reference : f ≡ false → referenceStep s (drop at t) ≡ (writes s (resolveString s (underscored (part t at e))), drop e t)
+    step-reference : f ≡ false → referenceStep (resolve s) s (drop at t) ≡ (writes s (textOf (resolve s (underscored (part t at e)))), drop e t)
     unfolding referenceStep ret ifR _>>=_
     step-reference g = rw (x .says, h, y .rest, y .took, k .says, g) refl
 
@@ -70,11 +70,11 @@ module _ {t : List ℕ} {at : ℕ} {l : Bool} (x : Sees letter t at l) {room p :
           puts = λ s. record { text = bytes "#" ++ part t at e; does = step-called (s .r) x h y k g; emits = emits-put n both };
         }
 
-    pub refers-text : f ≡ false → IsSheet z → ((s : IsSheet z) → Put room b p (resolveString (s .r) (underscored (part t at e))) c q) → Refers t at z full room b p c (record { ok = leb q room; number = full; whole = true; at = e; next = q })
+    pub refers-text : f ≡ false → IsSheet z → ((s : IsSheet z) → Put room b p (textOf (resolve (s .r) (underscored (part t at e)))) c q) → Refers t at z full room b p c (record { ok = leb q room; number = full; whole = true; at = e; next = q })
     refers-text g i u = record {
       size = put-length (u i);
       on = y .on;
       inside = y .inside;
       whole = refl;
-      puts = λ s. record { text = resolveString (s .r) (underscored (part t at e)); does = step-reference (s .r) x h y k g; emits = emits-put n (u s) };
+      puts = λ s. record { text = textOf (resolve (s .r) (underscored (part t at e))); does = step-reference (s .r) x h y k g; emits = emits-put n (u s) };
     }

@@ -9,7 +9,7 @@ use borrow.Author.Tests.{lt-leb}
 use Rattle.rules.specs.Reader.{bytes, ifR, _>>=_}
 use Rattle.rules.specs.Run.{ok, Did, write}
 use Rattle.rules.specs.Files.{View}
-use Rattle.rules.specs.Sheet.{Records, sheetLength, resolveString}
+use Rattle.rules.specs.Sheet.{Records, sheetLength, resolve}
 use Rattle.rules.specs.Expansion.{binds, writes, importStep, letStep, referenceStep, callStep, raw, link, expansionStep}
 use Rattle.scan.specs.Sets.{Starts}
 use Rattle.scan.specs.Laws.{mark-yes, mark-no}
@@ -58,27 +58,27 @@ module _ (v : View) (s : Records) {t : List ℕ} {at : ℕ} {i : Bool} (I : Star
   choose-import e = rw (mark-yes I e) refl
 
   module _ (ni : i ≡ false) {l : Bool} (L : Starts (bytes "#let") t at l) where
-    choose-let : l ≡ true → expansionStep v s (drop at t) ≡ letStep s (drop (at + 4) t)
+    choose-let : l ≡ true → expansionStep v s (drop at t) ≡ letStep (resolve s) s (drop (at + 4) t)
     unfolding expansionStep _>>=_ ifR
     choose-let e = rw (mark-no I ni, mark-yes L e) refl
 
 module _ (v : View) (s : Records) {t : List ℕ} {at : ℕ} (u : Unbound t at) {r : Bool} (R : Starts (bytes "#raw") t at r) where
-  choose-raw : r ≡ true → expansionStep v s (drop at t) ≡ callStep (bytes "#raw") (raw v (resolveString s)) s (drop (at + 4) t)
+  choose-raw : r ≡ true → expansionStep v s (drop at t) ≡ callStep (bytes "#raw") (raw v (resolve s)) s (drop (at + 4) t)
   unfolding expansionStep _>>=_ ifR
   choose-raw e = rw (mark-no (u .import) refl, mark-no (u .let-mark) refl, mark-yes R e) refl
 
   module _ (nr : r ≡ false) {k : Bool} (K : Starts (bytes "#link") t at k) where
-    choose-link : k ≡ true → expansionStep v s (drop at t) ≡ callStep (bytes "#link") (link (resolveString s)) s (drop (at + 5) t)
+    choose-link : k ≡ true → expansionStep v s (drop at t) ≡ callStep (bytes "#link") (link (resolve s)) s (drop (at + 5) t)
     unfolding expansionStep _>>=_ ifR
     choose-link e = rw (mark-no (u .import) refl, mark-no (u .let-mark) refl, mark-no R nr, mark-yes K e) refl
 
-    choose-reference : k ≡ false → expansionStep v s (drop at t) ≡ referenceStep s (drop (at + 1) t)
+    choose-reference : k ≡ false → expansionStep v s (drop at t) ≡ referenceStep (resolve s) s (drop (at + 1) t)
     unfolding expansionStep _>>=_ ifR
     choose-reference e = rw (mark-no (u .import) refl, mark-no (u .let-mark) refl, mark-no R nr, mark-no K e, mark-yes (u .hash) refl) refl
 
 -- The ways through the step that keeps the sheet.
 module _ {full room : ℕ} {v : View} {t : List ℕ} {at : ℕ} (u : Unbound t at) {a : Bool} (R : Starts (bytes "#raw") t at a) {z b : List ℕ} {p : ℕ} {c : List ℕ} where
-  pub writes-raw : {r : WriteStep} → a ≡ true → StepsBy full room (λ s. callStep (bytes "#raw") (raw v (resolveString s)) s) t (at + 4) z b p c r → WritesAt full room v t at z b p c r
+  pub writes-raw : {r : WriteStep} → a ≡ true → StepsBy full room (λ s. callStep (bytes "#raw") (raw v (resolve s)) s) t (at + 4) z b p c r → WritesAt full room v t at z b p c r
   writes-raw {r} e w = record {
     size = w .size;
     on = omega (arith, w .on);
@@ -87,7 +87,7 @@ module _ {full room : ℕ} {v : View} {t : List ℕ} {at : ℕ} (u : Unbound t a
   }
 
   module _ (na : a ≡ false) {k : Bool} (K : Starts (bytes "#link") t at k) where
-    pub writes-link : {r : WriteStep} → k ≡ true → StepsBy full room (λ s. callStep (bytes "#link") (link (resolveString s)) s) t (at + 5) z b p c r → WritesAt full room v t at z b p c r
+    pub writes-link : {r : WriteStep} → k ≡ true → StepsBy full room (λ s. callStep (bytes "#link") (link (resolve s)) s) t (at + 5) z b p c r → WritesAt full room v t at z b p c r
     writes-link {r} e w = record {
       size = w .size;
       on = omega (arith, w .on);

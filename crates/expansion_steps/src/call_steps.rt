@@ -10,7 +10,7 @@ ghost use lib.ListN.{length};
 ghost use Rattle.rules.specs.Reader.{bytes};
 ghost use Rattle.rules.specs.Bundle.{bundleOf};
 ghost use Rattle.rules.specs.Files.{view};
-ghost use Rattle.rules.specs.Sheet.{resolveString};
+ghost use Rattle.rules.specs.Sheet.{resolve};
 ghost use Rattle.rules.specs.Expansion.{callStep, raw, link};
 ghost use Rattle.rules.specs.Laws.Bool.{isSome};
 ghost use Rattle.scan.specs.Sets.{part, Starts};
@@ -88,7 +88,7 @@ pub fn raw_step(
     full: u8,
 ) -> WriteStep
     requires { ⌜ (isSome (bundleOf (now b)) ≡ true) × Starts (bytes "#raw") (now text) at true × Space room (now out) p × IsSheet (now sheet) ⌝ }
-    ensures { λ r. ⌜ StepsBy full room (λ s. callStep (bytes "#raw") (raw (view (entriesOf (now (b .entry)))) (resolveString s)) s) (now (text .entry)) (at + 4) (now (sheet .entry)) (now (out .entry)) p (now (out .exit)) r ⌝ }
+    ensures { λ r. ⌜ StepsBy full room (λ s. callStep (bytes "#raw") (raw (view (entriesOf (now (b .entry)))) (resolve s)) s) (now (text .entry)) (at + 4) (now (sheet .entry)) (now (out .entry)) p (now (out .exit)) r ⌝ }
 {
     let i = scan::span(text, at + 4, Set::LineBlank);
     if !scan::at(text, i, b'(') {
@@ -109,7 +109,7 @@ pub fn link_step(
     full: u8,
 ) -> WriteStep
     requires { ⌜ Starts (bytes "#link") (now text) at true × Space room (now out) p × IsSheet (now sheet) ⌝ }
-    ensures { λ r. ⌜ StepsBy full room (λ s. callStep (bytes "#link") (link (resolveString s)) s) (now (text .entry)) (at + 5) (now (sheet .entry)) (now (out .entry)) p (now (out .exit)) r ⌝ }
+    ensures { λ r. ⌜ StepsBy full room (λ s. callStep (bytes "#link") (link (resolve s)) s) (now (text .entry)) (at + 5) (now (sheet .entry)) (now (out .entry)) p (now (out .exit)) r ⌝ }
 {
     let i = scan::span(text, at + 5, Set::LineBlank);
     if !scan::at(text, i, b'(') {

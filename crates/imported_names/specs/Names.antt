@@ -5,22 +5,22 @@ use mathlib.Core.List.{List, [], _∷_, _++_, append-nil}
 use mathlib.Core.Option.{Option, none, some}
 use Prim.Native.Nat.{ℕ, _+_, _≤_, _<_}
 use native.Mathlib.Omega.{arith}
-use lib.ListN.{length, take, drop-of-length-le}
+use lib.ListN.{length, take, drop, drop-of-length-le}
 use borrow.Author.Tests.{le-leb, lt-leb}
-use Rattle.scan.specs.Sets.{part}
+use Rattle.scan.specs.Sets.{part, Spans}
+use Rattle.scan.specs.Stretches.{span-took}
 use Rattle.rules.specs.Answer.{Answer, refused, accepted, _>>=_, _>>_, check}
 use Rattle.rules.specs.Reader.{all}
 use Rattle.rules.specs.Bytes.{word}
-use Rattle.rules.specs.Sheet.{Value, Records, end, rec, encode, sheetLength, goodValue, goodRecords, get, set}
+use Rattle.rules.specs.Sheet.{Value, Records, end, rec, encode, sheetLength, goodValue, goodRecords, Lookup, resolve, set}
 use Rattle.rules.specs.Definitions.{Names, star, listed, listedMore}
 use Rattle.rules.specs.Imports.{bindOne, bindIf, bindAll, bindListed, bindNames}
 use Rattle.rules.specs.Laws.Answer.{bind-accepted}
-use Rattle.rules.specs.Laws.Sheet.{good-parts, get-good, set-good}
-use Rattle.rules.specs.Laws.Definitions.{get-name}
+use Rattle.rules.specs.Laws.Sheet.{good-parts, resolve-good, set-good}
 use Rattle.sheet.specs.Parts.{Part, part-slice}
 use Rattle.sheet.specs.Items.{At, Describes, Holding, inner}
 use Rattle.sheet.specs.Order.{underscoredIf}
-use Rattle.sheet.specs.Find.{IsSheet, Level, Gives, Body, item-body, item-holding, item-rest}
+use Rattle.sheet.specs.Find.{IsSheet, Gives, Body, item-body, item-holding, item-rest}
 use Rattle.binding.specs.Write.{Bindable, BindsTo, IsThere}
 use Rattle.sheet.specs.Use.{found-there}
 use Rattle.binding.specs.Use.{Keeps, kept-holds, keeps-holds, Holds, holds-sheet, to-bind, bound-bytes, over-long}
@@ -34,6 +34,10 @@ use Rattle.binding.specs.declared.Bound.the-variants.{Over, Length}
 pub record Ready (z b : List ℕ) (n limit : ℕ) : Type 0 where
   pub keeps : Keeps b n limit
   pub from : IsSheet z
+
+-- A word: letters, digits and `_`.
+abbrev pub IsWord : List ℕ → Type 0
+IsWord w = all word w ≡ true
 
 -- What the answer a came to: refused with 9, or c holds its records.
 pub record IsBound (limit : ℕ) (a : Answer Records) (c : List ℕ) (o : Bound) : Type 0 where
@@ -181,24 +185,24 @@ module _ {z b : List ℕ} {n limit : ℕ} (p : Ready z b n limit) {c : List ℕ}
         }
 
 -- ONE NAME.
-abbrev pub sheet-level : {z : List ℕ} → IsSheet z → Level z 0 (length z)
-sheet-level r = record { r = r .r; p = word; l = 6; part = sheet-part r; good = r .good }
+pub word-is : {t : List ℕ} {a e : ℕ} → Spans word t a e → IsWord (part t a e)
+word-is {t} {a} x = ap (all word) (sym (x .took)) ∙ span-took word (drop a t)
 
 pub none-bound : {z b : List ℕ} {n limit : ℕ} → Ready z b n limit → BindsNames (listed []) z b n limit b (Length n)
 unfolding bindNames bindListed
 none-bound p = record { size = refl; binds = λ s r. is-bound-length (s .r) refl (kept-holds (p .keeps) s) }
 
-one-word : (limit : ℕ) (s r : Records) (w : List ℕ) {c : List ℕ} {o : Bound} (x : Option Value) → get r w ≡ x → IsBound limit (bindIf limit s w x) c o → IsBound limit (bindNames limit s r (listed (w ∷ []))) c o
+one-word : (limit : ℕ) (s r : Records) (w : List ℕ) {c : List ℕ} {o : Bound} (x : Option Value) → resolve r w ≡ x → IsBound limit (bindIf limit s w x) c o → IsBound limit (bindNames limit s r (listed (w ∷ []))) c o
 unfolding bindNames bindListed
 one-word limit s r w x e h = record {
   over = λ q. bind-refused _ _ (ap (bindIf limit s w) e ∙ h .over q);
   bound = λ m q. let y = h .bound m q in (y .0, bind-accepted _ _ (ap (bindIf limit s w) e ∙ y .1), y .2);
 }
 
-module _ {z b : List ℕ} {n limit : ℕ} (p : Ready z b n limit) (w : List ℕ) (f : Found) (g : (l : Level z 0 (length z)) → Gives z (get (l .r) (underscoredIf false w)) f) where
-  gives-word : (r : IsSheet z) → Gives z (get (r .r) w) f
+module _ {z b : List ℕ} {n limit : ℕ} (p : Ready z b n limit) (w : List ℕ) (f : Found) (told : (r : Records) → z ≡ encode r → goodRecords r word 6 ≡ true → Gives z (resolve r (underscoredIf false w)) f) where
+  gives-word : (r : IsSheet z) → Gives z (resolve (r .r) w) f
   unfolding underscoredIf
-  gives-word r = g (sheet-level r)
+  gives-word r = told (r .r) (r .bytes) (r .good)
 
   pub word-bindable : Bindable b n limit
   word-bindable = holds-bindable (keeps-holds (p .keeps)) (p .keeps .room) (p .keeps .most)
@@ -210,17 +214,17 @@ module _ {z b : List ℕ} {n limit : ℕ} (p : Ready z b n limit) (w : List ℕ)
   unfolding bindIf Gives
   word-missing e = record {
     size = refl;
-    binds = λ s r. let y : get (r .r) w ≡ none = rw e at (gives-word r) in one-word limit (s .r) (r .r) w none y (is-bound-length (s .r) refl (kept-holds (p .keeps) s));
+    binds = λ s r. let y : resolve (r .r) w ≡ none = rw e at (gives-word r) in one-word limit (s .r) (r .r) w none y (is-bound-length (s .r) refl (kept-holds (p .keeps) s));
   }
 
   module _ {c : List ℕ} {o : Bound} (x : (v : Value) → Gives z (some v) f → BindsTo b n limit (underscoredIf false w) v c o) where
-    pub word-bound : (f ≡ Missing → ⊥) → BindsNames (listed (w ∷ [])) z b n limit c o
+    pub word-bound : IsWord w → (f ≡ Missing → ⊥) → BindsNames (listed (w ∷ [])) z b n limit c o
     unfolding bindIf underscoredIf
-    word-bound h = record {
+    word-bound a h = record {
       size = x _ (word-there h .gives) .long;
       binds = λ s r.
           let y = found-there z _ f (gives-word r) h in
-          one-word limit (s .r) (r .r) w (some (y .0)) (y .1) (came-one o (kept-holds (p .keeps) s) (get-name (r .r) word 6 w (y .0) (r .good) (y .1)) (get-good (r .r) word 6 w (y .0) (r .good) (y .1)) (x _ (y .2)));
+          one-word limit (s .r) (r .r) w (some (y .0)) (y .1) (came-one o (kept-holds (p .keeps) s) a (resolve-good (r .r) word 6 w (y .0) (r .good) (y .1)) (x _ (y .2)));
     }
 
 -- A later word, which is dropped where it is empty.
@@ -243,16 +247,16 @@ unfolding _>>=_
 bind-assoc (refused k) f g h e = refl
 bind-assoc (accepted s) f g h e = e s
 
-listed-append : (limit : ℕ) (s r : Records) (xs ys : List (List ℕ)) → bindListed limit s r (xs ++ ys) ≡ (bindListed limit s r xs >>= λ s′. bindListed limit s′ r ys)
+listed-append : (limit : ℕ) (s : Records) (look : Lookup) (xs ys : List (List ℕ)) → bindListed limit s look (xs ++ ys) ≡ (bindListed limit s look xs >>= λ s′. bindListed limit s′ look ys)
 unfolding bindListed _>>=_
-listed-append limit s r [] ys = refl
-listed-append limit s r (x ∷ xs) ys = bind-assoc (bindIf limit s x (get r x)) _ _ _ (λ s′. listed-append limit s′ r xs ys)
+listed-append limit s look [] ys = refl
+listed-append limit s look (x ∷ xs) ys = bind-assoc (bindIf limit s x (look x)) _ _ _ (λ s′. listed-append limit s′ look xs ys)
 
 module _ {xs : List (List ℕ)} (ys : List (List ℕ)) {z b : List ℕ} {n limit : ℕ} {c : List ℕ} {o : Bound} (w : BindsNames (listed xs) z b n limit c o) where
   -- Behind words that are refused nothing is bound.
   pub names-over : o ≡ Over → BindsNames (listed (xs ++ ys)) z b n limit c Over
   unfolding bindNames
-  names-over e = record { size = w .size; binds = λ s r. is-bound-over (listed-append limit (s .r) (r .r) xs ys ∙ bind-refused _ _ (w .binds s r .over e)) }
+  names-over e = record { size = w .size; binds = λ s r. is-bound-over (listed-append limit (s .r) (resolve (r .r)) xs ys ∙ bind-refused _ _ (w .binds s r .over e)) }
 
   -- Behind words that are bound the others are.
   pub names-then : {m : ℕ} {c′ : List ℕ} {o′ : Bound} → o ≡ Length m → BindsNames (listed ys) z c m limit c′ o′ → BindsNames (listed (xs ++ ys)) z b n limit c′ o′
@@ -261,7 +265,7 @@ module _ {xs : List (List ℕ)} (ys : List (List ℕ)) {z b : List ℕ} {n limit
     size = v .size ∙ w .size;
     binds = λ s r.
         let y = w .binds s r .bound _ e in
-        rw (listed-append limit (s .r) (r .r) xs ys ∙ bind-accepted _ _ (y .1)) (v .binds (holds-sheet (y .2)) r);
+        rw (listed-append limit (s .r) (resolve (r .r)) xs ys ∙ bind-accepted _ _ (y .1)) (v .binds (holds-sheet (y .2)) r);
   }
 
 -- What is left is a sheet, too.

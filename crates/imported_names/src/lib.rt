@@ -10,7 +10,7 @@ ghost use Prim.Native.Nat.{_≤_};
 ghost use lib.ListN.{length, drop};
 ghost use Rattle.rules.specs.Reader.{rounds};
 ghost use Rattle.rules.specs.Definitions.{star, listed, listedMore, wordRound, names};
-ghost use Rattle.imported_names.specs.Names.{Ready, BindsNames};
+ghost use Rattle.imported_names.specs.Names.{Ready, IsWord, BindsNames};
 ghost use Rattle.imported_names.specs.Words.{words};
 
 // Binds all names of the sheet `other`, in their order.
@@ -36,12 +36,12 @@ fn bind_all(other: &[u8], left: &mut [u8], n: usize, limit: usize) -> Bound
     Bound::Length(len)
 }
 
-// Binds a word, if the sheet `other` has it as a name.
+// Looks a word up in the sheet `other`, and binds it where it is found.
 fn bind_word(word: &[u8], other: &[u8], left: &mut [u8], n: usize, limit: usize) -> Bound
-    requires { ⌜ Ready (now other) (now left) n limit ⌝ }
+    requires { ⌜ IsWord (now word) × Ready (now other) (now left) n limit ⌝ }
     ensures { λ r. ⌜ BindsNames (listed (now (word .entry) ∷ [])) (now (other .entry)) (now (left .entry)) n limit (now (left .exit)) r ⌝ }
 {
-    let found = sheet::lookup::find(other, 0, other.len(), word, false);
+    let found = sheet::lookup::lookup(other, word, false);
     match found {
         Found::Missing => Bound::Length(n),
         _ => binding::bind_from(left, n, limit, word, false, other, found),
@@ -50,7 +50,7 @@ fn bind_word(word: &[u8], other: &[u8], left: &mut [u8], n: usize, limit: usize)
 
 // Binds a word behind the first; the empty one is dropped.
 fn bind_later(word: &[u8], other: &[u8], left: &mut [u8], n: usize, limit: usize) -> Bound
-    requires { ⌜ Ready (now other) (now left) n limit ⌝ }
+    requires { ⌜ IsWord (now word) × Ready (now other) (now left) n limit ⌝ }
     ensures { λ r. ⌜ BindsNames (listed (listedMore [] (now (word .entry)))) (now (other .entry)) (now (left .entry)) n limit (now (left .exit)) r ⌝ }
 {
     if word.len() == 0 {

@@ -8,7 +8,7 @@ use native.Mathlib.Omega.{arith}
 use lib.ListN.{length, take, drop}
 use Rattle.rules.specs.Reader.{ret, _>>=_, _>>_, but, either, all}
 use Rattle.rules.specs.Bytes.{ascii, lineBlank, word, nameByte, underscored}
-use Rattle.rules.specs.Sheet.{Value, text, Records, encode, sheetLength, goodRecords, resolve, set}
+use Rattle.rules.specs.Sheet.{Value, text, Records, encode, sheetLength, goodRecords, Lookup, resolve, set}
 use Rattle.rules.specs.Expansion.{binds, importStep, letValue, letStep}
 use Rattle.rules.specs.Laws.Parts.{let-good}
 use Rattle.rules.specs.Laws.Sheet.{set-good}
@@ -44,7 +44,7 @@ pub record IsLine (t : List ℕ) (at : ℕ) (r : Line) : Type 0 where
   pub on : at ≤ r .next
   pub inside : r .next ≤ length t
   pub named : all nameByte (part t (r .from) (r .to)) ≡ true
-  pub does : (s : Records) → letStep s (drop at t) ≡ (binds (set s (underscored (part t (r .from) (r .to))) (letValue (part t (r .start) (r .end)) (resolve s (part t (r .start) (r .end))))), drop (r .next) t)
+  pub does : (look : Lookup) (s : Records) → letStep look s (drop at t) ≡ (binds (set s (underscored (part t (r .from) (r .to))) (letValue (part t (r .start) (r .end)) (look (part t (r .start) (r .end))))), drop (r .next) t)
 
 -- The name is bound in the first n bytes of b to the text v, or to what that is looked up as.
 pub record BindsLine (b : List ℕ) (n limit : ℕ) (name v c : List ℕ) (o : Bound) : Type 0 where
@@ -54,7 +54,7 @@ pub record BindsLine (b : List ℕ) (n limit : ℕ) (name v c : List ℕ) (o : B
 -- The step leaves the records `to`: c holds them, or they are too long.
 pub record LetLeaves (limit : ℕ) (t : List ℕ) (at : ℕ) (s : Records) (c : List ℕ) (r : Let) : Type 0 where
   pub to : Records
-  pub does : letStep s (drop at t) ≡ (binds to, drop (r .at) t)
+  pub does : letStep (resolve s) s (drop at t) ≡ (binds to, drop (r .at) t)
   pub goes : r .ok ≡ true → Holds to c (r .len) limit
   pub stops : r .ok ≡ false → limit < sheetLength to
 
@@ -82,7 +82,7 @@ line-is {t} {a = a} x y z w m k = record {
   on = omega (arith, x .on, y .on, z .on, w .on, k .on);
   inside = k .inside;
   named = ap (all nameByte) (sym (y .took)) ∙ span-took nameByte (drop a t);
-  does = λ s. rw (x .rest, y .rest, y .took, z .rest, w .rest, w .took, k .rest, m .text) refl;
+  does = λ look s. rw (x .rest, y .rest, y .took, z .rest, w .rest, w .took, k .rest, m .text) refl;
 }
 
 -- BINDING.
@@ -116,7 +116,7 @@ module _ {t : List ℕ} {at : ℕ} {l : Line} (i : IsLine t at l) {b : List ℕ}
     size = w .size;
     on = i .on;
     inside = i .inside;
-    leaves = λ s. record { to = _; does = i .does (s .r); goes = λ z. absurd (true≢false (sym z)); stops = λ z. over-long (s .r) (s .bytes) (rw e at (w .binds s)) };
+    leaves = λ s. record { to = _; does = i .does (resolve (s .r)) (s .r); goes = λ z. absurd (true≢false (sym z)); stops = λ z. over-long (s .r) (s .bytes) (rw e at (w .binds s)) };
   }
 
   pub let-bound : {k : ℕ} → all ascii t ≡ true → o ≡ Length k → Lets limit t at b n c (record { ok = true; at = l .next; len = k })
@@ -129,7 +129,7 @@ module _ {t : List ℕ} {at : ℕ} {l : Line} (i : IsLine t at l) {b : List ℕ}
         let y = bound-bytes (s .r) (s .bytes) (rw e at (w .binds s)) in
         record {
           to = _;
-          does = i .does (s .r);
+          does = i .does (resolve (s .r)) (s .r);
           goes = λ z. record {
             bytes = y .1;
             long = y .2;

@@ -45,27 +45,25 @@ fn text_same(answer: &[u8], got: builder::Text, out: &[u8; 4096]) -> bool {
     holds(&all[..n], &answer[3..])
 }
 
-// The text of a lookup.
-fn string_same(sheet: &[u8], path: &[u8], answer: &[u8]) -> bool {
-    let mut out = buffer();
-    let n = room(answer, &out);
-    let got = builder::resolve_string(sheet, path, &mut out[..n]);
-    text_same(answer, got, &out)
+// Is the kind answered as the field says: one byte?
+fn kind_same(answer: &[u8], kind: u8) -> bool {
+    if answer.len() != 1 {
+        return false;
+    }
+    answer[0] == kind
 }
 
-// The lookup calls: sheet, path, answer. The answer: number and kind, then the text's answer.
+// The lookup call: sheet, path, the answer of a text, and the kind.
 fn lookup_same(case: &[u8]) -> bool {
-    let sheet = field(case, 0);
-    let path = field(case, 1);
     let answer = field(case, 2);
-    if answer.len() < 2 {
-        return false;
-    }
-    let got = builder::resolve(sheet, path);
-    if (got.number != answer[0]) | (got.kind != answer[1]) {
-        return false;
-    }
-    string_same(sheet, path, &answer[2..])
+    let mut out = buffer();
+    let n = room(answer, &out);
+    let got = builder::resolve(field(case, 0), field(case, 1), &mut out[..n]);
+    let written = builder::Text {
+        number: got.number,
+        len: got.len,
+    };
+    text_same(answer, written, &out) & kind_same(field(case, 3), got.kind)
 }
 
 // The include call: bundle, folder, text, and the answer of a text.
@@ -202,7 +200,7 @@ fn replay_case(tag: u8, case: &[u8]) -> Done
     match tag {
         0 => Done {
             same: lookup_same(case),
-            len: behind(case, 3),
+            len: behind(case, 4),
         },
         1 => Done {
             same: includes_same(case),

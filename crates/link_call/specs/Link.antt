@@ -8,6 +8,7 @@ use lib.ListN.{length, take, drop}
 use lib.Seq.{drop-drop}
 use Rattle.rules.specs.Reader.{Reader, bytes, empty, same, ret, ifR, _>>=_, _>>_}
 use Rattle.rules.specs.Bytes.{blank, lineBlank}
+use Rattle.rules.specs.Sheet.{Lookup}
 use Rattle.rules.specs.Strings.{expression}
 use Rattle.rules.specs.Expansion.{Call, outputs, linkText, linkContentBlock, linkEnd, link}
 use Rattle.rules.specs.Laws.Sheet.{same-refl, same-eq}
@@ -121,7 +122,7 @@ module _ (u w : List ℕ) {a : Bool} (A : a ≡ (empty w || same w u)) {room : �
       rw (sym A ∙ e, linkText) (put-then s₁ l (put-then s₂ (omega arith) (put-then s₃ (omega arith) (put-then s₄ (omega arith) s₅))))
 
 -- THE CALL, behind blanks up to i.
-module _ (look : List ℕ → List ℕ) {t : List ℕ} {at i : ℕ} (L : Spans blank t at i) {c : Bool} (s : Sees (byteIs 60) t i c) {room : ℕ} {b : List ℕ} {p : ℕ} where
+module _ (look : Lookup) {t : List ℕ} {at i : ℕ} (L : Spans blank t at i) {c : Bool} (s : Sees (byteIs 60) t i c) {room : ℕ} {b : List ℕ} {p : ℕ} where
   pub link-back : c ≡ true → Calls room (link look (drop at t)) t at b p b (record { outcome = HandedBack; at = i })
   unfolding link Says _>>=_ _>>_ ifR ret
   link-back e = record { on = L .on; inside = L .inside; size = refl; says = (rw (L .rest, sees-the "<" s e .says) refl, refl) }

@@ -9,7 +9,7 @@ ghost use Prim.Native.Nat.{_≤_, _<_};
 ghost use lib.ListN.{length, drop};
 ghost use Rattle.rules.specs.Reader.{empty, same};
 ghost use Rattle.rules.specs.Strings.{expression};
-ghost use Rattle.rules.specs.Sheet.{resolveString};
+ghost use Rattle.rules.specs.Sheet.{resolve};
 ghost use Rattle.rules.specs.Expansion.{linkText, linkContentBlock, linkEnd, link};
 ghost use Rattle.sheet.specs.Find.{IsSheet};
 ghost use Rattle.buffers.specs.Put.{Writer, Put};
@@ -73,7 +73,7 @@ fn call_end(text: &[u8], at: usize) -> Ending
 // Is a call's text its address alone? Then the content block's text is empty, or the address, with which it is compared while that is read.
 fn address_alone(address: &[u8], sheet: &[u8], text: &[u8]) -> bool
     requires { ⌜ IsSheet (now sheet) ⌝ }
-    ensures { λ r. ⌜ ((s : IsSheet (now (sheet .entry))) → r ≡ (empty (now (text .entry)) || same (now (text .entry)) (expression (resolveString (s .r)) (now (address .entry)) .0))) ⌝ }
+    ensures { λ r. ⌜ ((s : IsSheet (now (sheet .entry))) → r ≡ (empty (now (text .entry)) || same (now (text .entry)) (expression (resolve (s .r)) (now (address .entry)) .0))) ⌝ }
 {
     if text.len() == 0 {
         return true;
@@ -91,7 +91,7 @@ fn put_link(
     p: usize,
 ) -> usize
     requires { ⌜ Writer room p × (length (now out) ≤ room) × IsSheet (now sheet) ⌝ }
-    ensures { λ r. ⌜ ((s : IsSheet (now (sheet .entry))) → Put room (now (out .entry)) p (linkText (expression (resolveString (s .r)) (now (address .entry)) .0) (now (text .entry))) (now (out .exit)) r) ⌝ }
+    ensures { λ r. ⌜ ((s : IsSheet (now (sheet .entry))) → Put room (now (out .entry)) p (linkText (expression (resolve (s .r)) (now (address .entry)) .0) (now (text .entry))) (now (out .exit)) r) ⌝ }
 {
     if address_alone(address, sheet, text) {
         let r = strings::expression(address, sheet, out, room, p);
@@ -107,7 +107,7 @@ fn put_link(
 // Reads a link call from behind its `(`, and puts its text. At `<` it is handed back. What is answered does not depend on the buffer.
 pub fn link(text: &[u8], at: usize, sheet: &[u8], out: &mut [u8], room: usize, p: usize) -> Called
     requires { ⌜ (at ≤ length (now text)) × Writer room p × (length (now out) ≤ room) × IsSheet (now sheet) ⌝ }
-    ensures { λ r. ⌜ ((s : IsSheet (now (sheet .entry))) → Calls room (link (resolveString (s .r)) (drop at (now (text .entry)))) (now (text .entry)) at (now (out .entry)) p (now (out .exit)) r) ⌝ }
+    ensures { λ r. ⌜ ((s : IsSheet (now (sheet .entry))) → Calls room (link (resolve (s .r)) (drop at (now (text .entry)))) (now (text .entry)) at (now (out .entry)) p (now (out .exit)) r) ⌝ }
 {
     let i = scan::span(text, at, Set::Blank);
     if scan::at(text, i, b'<') {

@@ -1,16 +1,18 @@
-// The lookups of the public calls: a text in a sheet, its text at the start of a buffer, a path in a bundle. Each answers as the rules say; what
-// stands in the buffer behind the text is left as it is.
+// The lookups of the public calls: a text in a sheet, what it stands for at the start of a buffer; a path in a bundle. Each answers as the rules say;
+// what stands in the buffer behind the text is left as it is.
 use sheet::lookup::Found;
+use sheet::lookup::text_place;
 ghost use mathlib.Core.Path.{_≡_};
-ghost use Rattle.rules.specs.Calls.{resolveOf, findFileOf};
+ghost use Rattle.rules.specs.Calls.{findFileOf};
 ghost use Rattle.sheet.specs.Find.{foundKind};
 ghost use Rattle.lookups.specs.Files.{fileAnswer};
-ghost use Rattle.lookups.specs.Text.{TextAt, Gave, GivesText};
+ghost use Rattle.lookups.specs.Text.{Gave, Resolves};
 
-// A lookup's answer. Kind: 0 missing, 1 none, 2 text, 3 dictionary.
+// A lookup's answer. Kind: 0 missing, 1 none, 2 text, 3 dictionary. Of a text, its length at the start of the buffer.
 pub struct Resolved {
     pub number: u8,
     pub kind: u8,
+    pub len: usize,
 }
 
 // The number of a kind.
@@ -29,77 +31,49 @@ fn kind(found: Found) -> u8
     }
 }
 
-// What a text in a sheet is looked up as: 3, 6.
-pub fn resolve(sheet: &[u8], path: &[u8]) -> Resolved
-    ensures { λ r. ⌜ resolveOf (now (sheet .entry)) (now (path .entry)) ≡ record { number = r .number; kind = r .kind } ⌝ }
-{
-    if !sheet_layout::check(sheet) {
-        return Resolved { number: 3, kind: 0 };
-    }
-    if !scan::is_ascii(path) {
-        return Resolved { number: 6, kind: 0 };
-    }
-    let found = sheet::lookup::lookup(sheet, path, false);
-    Resolved {
-        number: 0,
-        kind: kind(found),
-    }
-}
-
-// A part of a sheet.
-pub struct Place {
-    pub from: usize,
-    pub to: usize,
-}
-
-// Where the text stands that was found; an empty part where there is none.
-fn text_place(found: Found) -> Place
-    ensures { λ r. ⌜ TextAt found (r .from) (r .to) ⌝ }
-{
-    match found {
-        Found::Text { from, to } => Place { from: from, to: to },
-        Found::Missing => Place { from: 0, to: 0 },
-        Found::None => Place { from: 0, to: 0 },
-        Found::Dictionary {
-            from: _,
-            to: _,
-            count: _,
-        } => Place { from: 0, to: 0 },
-    }
-}
-
-// A text's answer: its length at the start of the buffer.
-pub struct Given {
-    pub number: u8,
-    pub len: usize,
-}
-
-// Puts a text at the start of a buffer, or refuses it: 11.
-fn give(text: &[u8], out: &mut [u8]) -> Given
-    ensures { λ r. ⌜ Gave (now (text .entry)) (now (out .entry)) (now (out .exit)) r ⌝ }
+// Tells a kind, and puts its text at the start of a buffer; or refuses the text: 11. Of none, a dictionary and what is missing the text is empty.
+fn give(kind: u8, text: &[u8], out: &mut [u8]) -> Resolved
+    ensures { λ r. ⌜ Gave kind (now (text .entry)) (now (out .entry)) (now (out .exit)) r ⌝ }
 {
     let n = text.len();
     if out.len() < n {
-        return Given { number: 11, len: 0 };
+        return Resolved {
+            number: 11,
+            kind: 0,
+            len: 0,
+        };
     }
     buffers::store(out, 0, text);
-    Given { number: 0, len: n }
+    Resolved {
+        number: 0,
+        kind: kind,
+        len: n,
+    }
 }
 
-// The text that a text in a sheet is looked up as: 3, 6, 11.
-pub fn resolve_string(sheet: &[u8], path: &[u8], out: &mut [u8]) -> Given
-    ensures { λ r. ⌜ GivesText (now (sheet .entry)) (now (path .entry)) (now (out .entry)) (now (out .exit)) r ⌝ }
+// What a text in a sheet is looked up as: 3, 6, 11.
+pub fn resolve(sheet: &[u8], path: &[u8], out: &mut [u8]) -> Resolved
+    ensures { λ r. ⌜ Resolves (now (sheet .entry)) (now (path .entry)) (now (out .entry)) (now (out .exit)) r ⌝ }
 {
     if !sheet_layout::check(sheet) {
-        return Given { number: 3, len: 0 };
+        return Resolved {
+            number: 3,
+            kind: 0,
+            len: 0,
+        };
     }
     if !scan::is_ascii(path) {
-        return Given { number: 6, len: 0 };
+        return Resolved {
+            number: 6,
+            kind: 0,
+            len: 0,
+        };
     }
-    let place = text_place(sheet::lookup::lookup(sheet, path, false));
+    let found = sheet::lookup::lookup(sheet, path, false);
+    let place = text_place(found);
     let from = place.from;
     let to = place.to;
-    give(&sheet[from..to], out)
+    give(kind(found), &sheet[from..to], out)
 }
 
 // What a path is in a bundle. Kind: 0 absent, 1 folder, 2 file; a file's content stands at `start` in the bundle.

@@ -16,18 +16,18 @@ use Rattle.rules.specs.Reader.{bytes, all}
 use Rattle.rules.specs.Run.{ok, put, fail, andThen, unrefused}
 use Rattle.rules.specs.Bytes.{ascii, isPath, isFolder, parent}
 use Rattle.rules.specs.Bundle.{Entry, bundleOf}
-use Rattle.rules.specs.Calls.{Setting, limit, zeros, padded, Holds, resolveResult, resolveOf, kindAnswer, resolveStringResult, resolveStringOf, outputAnswer, findFileOf, foundAnswer, resolveIncludesResult, resolveIncludesOf, preprocessTypstResult, preprocessTypstOf, expandedAnswer, parseDefinitionsResult, parseDefinitionsOf, definedAnswer, passResult, passOf, passedAnswer, closedOf}
+use Rattle.rules.specs.Calls.{Setting, limit, zeros, padded, Holds, resolveResult, resolveOf, lookedAnswer, outputAnswer, findFileOf, foundAnswer, resolveIncludesResult, resolveIncludesOf, preprocessTypstResult, preprocessTypstOf, expandedAnswer, parseDefinitionsResult, parseDefinitionsOf, definedAnswer, passResult, passOf, passedAnswer, closedOf}
 use Rattle.rules.specs.Files.{View, view, fetch, opened}
 use Rattle.rules.specs.Sheet.{Records, sheetOf}
 use Rattle.rules.specs.Includes.{includeStep, insideFile}
 use Rattle.rules.specs.Expansion.{expansionStep}
 use Rattle.rules.specs.Manual.{built, shown, manual, manualOf}
 use Rattle.rules.specs.Parts.{sheetLeft}
-use Rattle.rules.specs.Laws.Calls.{refused-form, number-form, parseDefinitions-holds, parseDefinitions-work, parseDefinitions-sheet, resolve-numbered, resolveString-numbered, resolveIncludes-numbered, preprocessTypst-numbered, parseDefinitions-numbered, resolveString-holds, resolveIncludes-holds, preprocessTypst-holds, preprocessTypst-sheet, pass-holds, pass-middle, pass-closed, find-refused, find-known, pass-sheet}
+use Rattle.rules.specs.Laws.Calls.{refused-form, number-form, parseDefinitions-holds, parseDefinitions-work, parseDefinitions-sheet, resolve-numbered, resolveIncludes-numbered, preprocessTypst-numbered, parseDefinitions-numbered, resolve-holds, resolveIncludes-holds, preprocessTypst-holds, preprocessTypst-sheet, pass-holds, pass-middle, pass-closed, find-refused, find-known, pass-sheet}
 use Rattle.rules.specs.Laws.Found.{found-there, found-inside}
 use Rattle.rules.specs.Laws.Manual.{manual-holds}
 use Rattle.rules.specs.Laws.Parts.{result-numbered}
-use Rattle.rules.specs.Laws.Order.{resolve-order, resolveString-order, findFile-order, resolveIncludes-order, preprocessTypst-order, parseDefinitions-order, pass-order}
+use Rattle.rules.specs.Laws.Order.{resolve-order, findFile-order, resolveIncludes-order, preprocessTypst-order, parseDefinitions-order, pass-order}
 use Rattle.rules.specs.Laws.Once.{refused-alone, expansion-once, include-step-whole}
 
 -- CLOSED. The answer says closed exactly when the pass is accepted and the text is closed.
@@ -35,13 +35,9 @@ pub closed-exactly : (k : Setting) (sheet text : List ℕ) → (passOf k sheet t
 closed-exactly k sheet text = pass-closed k sheet text
 
 -- REFUSED: the number, every length zero, kind missing, not closed, every writable buffer zero.
-pub resolve-refused : (sheet path : List ℕ) → let r = resolveOf sheet path in r .number ≢ 0 → r ≡ record { number = r .number; kind = 0 }
-unfolding resolveOf kindAnswer
-resolve-refused sheet path h = refused-form kindAnswer (λ r. r .number) (λ k. refl) (λ a. refl) (resolveResult sheet path) h
-
-pub resolve-string-refused : (sheet path : List ℕ) (n : ℕ) → let r = resolveStringOf sheet path n in r .number ≢ 0 → r ≡ record { number = r .number; len = 0; out = zeros n }
-unfolding resolveStringOf outputAnswer
-resolve-string-refused sheet path n h = refused-form (outputAnswer n) (λ r. r .number) (λ k. refl) (λ a. refl) (resolveStringResult sheet path n) h
+pub resolve-refused : (sheet path : List ℕ) (n : ℕ) → let r = resolveOf sheet path n in r .number ≢ 0 → r ≡ record { number = r .number; kind = 0; len = 0; out = zeros n }
+unfolding resolveOf lookedAnswer
+resolve-refused sheet path n h = refused-form (lookedAnswer n) (λ r. r .number) (λ k. refl) (λ a. refl) (resolveResult sheet path n) h
 
 pub resolve-includes-refused : (bundle folder text : List ℕ) (n : ℕ) → let r = resolveIncludesOf bundle folder text n in r .number ≢ 0 → r ≡ record { number = r .number; len = 0; out = zeros n }
 unfolding resolveIncludesOf outputAnswer
@@ -72,8 +68,8 @@ pub find-file-there : (bundle path : List ℕ) (es : List Entry) → bundleOf bu
 find-file-there bundle path es h e k = (found-there bundle path es h e k, found-inside bundle path)
 
 -- WRITTEN: each buffer holds what the answer's length says, and zero behind it; refused, the length is zero.
-pub resolve-string-written : (sheet path : List ℕ) (n : ℕ) → let r = resolveStringOf sheet path n in Holds n (r .len) (r .out)
-resolve-string-written sheet path n = resolveString-holds sheet path n
+pub resolve-written : (sheet path : List ℕ) (n : ℕ) → let r = resolveOf sheet path n in Holds n (r .len) (r .out)
+resolve-written sheet path n = resolve-holds sheet path n
 
 pub resolve-includes-written : (bundle folder text : List ℕ) (n : ℕ) → let r = resolveIncludesOf bundle folder text n in Holds n (r .len) (r .out)
 resolve-includes-written bundle folder text n = resolveIncludes-holds bundle folder text n
@@ -104,17 +100,15 @@ unfoldable pub known : ℕ → Bool
 known n = eqb n 0 || isRefusal n
 
 pub numbers :
-    ((sheet path : List ℕ) → known (resolveOf sheet path .number) ≡ true)
-    × ((sheet path : List ℕ) (n : ℕ) → known (resolveStringOf sheet path n .number) ≡ true)
+    ((sheet path : List ℕ) (n : ℕ) → known (resolveOf sheet path n .number) ≡ true)
     × ((bundle folder text : List ℕ) (n : ℕ) → known (resolveIncludesOf bundle folder text n .number) ≡ true)
     × ((bundle text sheet : List ℕ) (n l : ℕ) → known (preprocessTypstOf bundle text sheet n l .number) ≡ true)
     × ((bundle path : List ℕ) (l w : ℕ) → known (parseDefinitionsOf bundle path l w .number) ≡ true)
     × ((k : Setting) (sheet text : List ℕ) → known (passOf k sheet text .number) ≡ true)
     × ((bundle path : List ℕ) → known (findFileOf bundle path .number) ≡ true)
-unfolding known resolveOf kindAnswer resolveStringOf outputAnswer resolveIncludesOf preprocessTypstOf expandedAnswer parseDefinitionsOf definedAnswer passOf passedAnswer
+unfolding known resolveOf lookedAnswer outputAnswer resolveIncludesOf preprocessTypstOf expandedAnswer parseDefinitionsOf definedAnswer passOf passedAnswer
 numbers = (
-  λ s p. number-form kindAnswer (λ r. r .number) (λ k. refl) (λ a. refl) (resolveResult s p) (resolve-numbered s p),
-  λ s p n. number-form (outputAnswer n) (λ r. r .number) (λ k. refl) (λ a. refl) (resolveStringResult s p n) (resolveString-numbered s p n),
+  λ s p n. number-form (lookedAnswer n) (λ r. r .number) (λ k. refl) (λ a. refl) (resolveResult s p n) (resolve-numbered s p n),
   λ b g t n. number-form (outputAnswer n) (λ r. r .number) (λ k. refl) (λ a. refl) (resolveIncludesResult b g t n) (resolveIncludes-numbered b g t n),
   λ b t s n l. number-form (expandedAnswer n l) (λ r. r .number) (λ k. refl) (λ a. refl) (preprocessTypstResult b t s n l) (preprocessTypst-numbered b t s n l),
   λ b p l w. number-form (definedAnswer l w) (λ r. r .number) (λ k. refl) (λ a. refl) (parseDefinitionsResult b p l w) (parseDefinitions-numbered b p l w),
@@ -127,15 +121,10 @@ numbers = (
 abbrev pub First : ℕ → List (ℕ × Bool) → Type 0
 First number rules = let k = firstBroken rules in k ≢ 0 → number ≡ k
 
-pub resolve-first : (sheet path : List ℕ) → First (resolveOf sheet path .number)
+pub resolve-first : (sheet path : List ℕ) (n : ℕ) → First (resolveOf sheet path n .number)
     ((3, isSome (sheetOf sheet)) ∷ (6, all ascii path) ∷ [])
-unfolding resolveOf kindAnswer
-resolve-first sheet path h = rw (resolve-order sheet path .first h)
-
-pub resolve-string-first : (sheet path : List ℕ) (n : ℕ) → First (resolveStringOf sheet path n .number)
-    ((3, isSome (sheetOf sheet)) ∷ (6, all ascii path) ∷ [])
-unfolding resolveStringOf outputAnswer
-resolve-string-first sheet path n h = rw (resolveString-order sheet path n .first h)
+unfolding resolveOf lookedAnswer
+resolve-first sheet path n h = rw (resolve-order sheet path n .first h)
 
 pub find-file-first : (bundle path : List ℕ) → First (findFileOf bundle path .number)
     ((2, isSome (bundleOf bundle)) ∷ (4, isPath path) ∷ [])

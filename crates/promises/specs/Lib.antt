@@ -1,4 +1,5 @@
 pub mod Lines
 pub mod Cut
 pub mod Answers
+pub mod Lookups
 pub mod Sheets

@@ -10,6 +10,7 @@ use lib.Seq.{drop-cons, drop-drop}
 use borrow.Author.Tests.{leb-true, leb-false, le-leb, lt-leb, eqb-true, not-true, not-false}
 use Rattle.rules.specs.Reader.{Reader, ret, ifR, _>>=_, _>>_, bytes, but, either, empty, same, span, rounds, Turn, again, stop}
 use Rattle.rules.specs.Bytes.{blank, letter, word, runByte, underscored}
+use Rattle.rules.specs.Sheet.{Lookup, textOf}
 use Rattle.rules.specs.Strings.{literal, reference}
 use Rattle.rules.specs.Expansion.{Arguments, stalled, arguments, Round, langValue, blockValue, argumentValue, argumentRound}
 use Rattle.rules.specs.Laws.Enough.{rounds-again, rounds-stop, argument-moving}
@@ -25,9 +26,9 @@ use Rattle.raw_arguments.specs.declared.Args.{Args}
 use Rattle.string_ends.specs.Ends.{Ends}
 
 -- The text of a language: `look` answers the text that a lookup gives; z: the sheet's bytes; t: the text that is read.
-unfoldable pub langText : (List ℕ → List ℕ) → List ℕ → List ℕ → Lang → List ℕ
+unfoldable pub langText : Lookup → List ℕ → List ℕ → Lang → List ℕ
 langText look z t (Literal a) = literal (drop a t) .0
-langText look z t (Reference a e) = look (underscored (part t a e))
+langText look z t (Reference a e) = textOf (look (underscored (part t a e)))
 langText look z t (Found a e) = part z a e
 
 -- It lies inside them.
@@ -37,25 +38,25 @@ Inside z t (Reference a e) = (a ≤ e) × (e ≤ length t)
 Inside z t (Found a e) = (a ≤ e) × (e ≤ length z)
 
 -- The arguments, from a language and a block on.
-abbrev pub argumentsFrom : (List ℕ → List ℕ) → List ℕ × Bool → Reader Arguments
+abbrev pub argumentsFrom : Lookup → List ℕ × Bool → Reader Arguments
 argumentsFrom look a = rounds (argumentRound look) (λ a. arguments (a .0) (a .1)) a
 
 -- From i on `lang` takes that of r. The sheet's bytes have no part in it.
-pub record IsLanguage (look : List ℕ → List ℕ) (z t : List ℕ) (i : ℕ) (r : LangRead) : Type 0 where
+pub record IsLanguage (look : Lookup) (z t : List ℕ) (i : ℕ) (r : LangRead) : Type 0 where
   pub on : i ≤ r .at
   pub inside : r .at ≤ length t
   pub lies : Inside z t (r .lang)
   pub takes : (k : Bool) → langValue look k (drop i t) ≡ (again (langText look z t (r .lang), k), drop (r .at) t)
 
 -- The rest of a round, behind the blanks and commas g.
-unfoldable pub named : (List ℕ → List ℕ) → List ℕ × Bool → List ℕ → Round
+unfoldable pub named : Lookup → List ℕ × Bool → List ℕ → Round
 named look a g = do
   n ← span word
   c ← span (either ":" blank)
   argumentValue look a n (not (empty g && empty n && empty c))
 
 -- An argument from i to e: f says what a round comes to, by what was set so far and whether the round has moved by nothing.
-pub record Takes (look : List ℕ → List ℕ) (t : List ℕ) (i e : ℕ) (f : List ℕ × Bool → Bool → Turn (List ℕ × Bool) Arguments) : Type 0 where
+pub record Takes (look : Lookup) (t : List ℕ) (i e : ℕ) (f : List ℕ × Bool → Bool → Turn (List ℕ × Bool) Arguments) : Type 0 where
   pub on : i ≤ e
   pub inside : e ≤ length t
   pub turns : (a : List ℕ × Bool) (g : List ℕ) → named look a g (drop i t) ≡ (f a (empty g && leb e i), drop e t)
@@ -66,13 +67,13 @@ unset a true = stop stalled
 unset a false = again a
 
 -- The argument whose name begins at i sets r.
-unfoldable pub Sets : (List ℕ → List ℕ) → List ℕ → List ℕ → ℕ → Setting → Type 0
+unfoldable pub Sets : Lookup → List ℕ → List ℕ → ℕ → Setting → Type 0
 Sets look z t i (Language v e) = Inside z t v × Takes look t i e (λ a s. again (langText look z t v, a .1))
 Sets look z t i (Block d e) = Takes look t i e (λ a s. again (a .0, d))
 Sets look z t i (Nothing e) = Takes look t i e unset
 
 -- From i on the arguments stall, or are those of r. The sheet's bytes have no part in them.
-pub record IsArguments (look : List ℕ → List ℕ) (z t : List ℕ) (i : ℕ) (r : Args) : Type 0 where
+pub record IsArguments (look : Lookup) (z t : List ℕ) (i : ℕ) (r : Args) : Type 0 where
   pub on : i ≤ r .at
   pub inside : r .at ≤ length t
   pub lies : Inside z t (r .lang)
@@ -80,7 +81,7 @@ pub record IsArguments (look : List ℕ → List ℕ) (z t : List ℕ) (i : ℕ)
   pub ends : r .stalled ≡ false → argumentsFrom look ([], false) (drop i t) ≡ (arguments (langText look z t (r .lang)) (r .block), drop (r .at) t)
 
 -- WHAT `lang` TAKES.
-module _ (look : List ℕ → List ℕ) (z : List ℕ) {t : List ℕ} {i : ℕ} {q : Bool} (s : Sees (byteIs 34) t i q) where
+module _ (look : Lookup) (z : List ℕ) {t : List ℕ} {i : ℕ} {q : Bool} (s : Sees (byteIs 34) t i q) where
   pub language-literal : {k : ℕ} → q ≡ true → Ends (literal (part t (i + 1) (length t))) (part t (i + 1) (length t)) k → IsLanguage look z t i (record { lang = Literal (i + 1); at = i + 1 + k })
   unfolding langValue _>>=_ _>>_ ifR ret langText Inside
   language-literal {k} e w =
@@ -147,7 +148,7 @@ module _ {t : List ℕ} {i n c : ℕ} (N : Spans word t i n) (C : Spans (either 
       and-assoc (empty g) _ _
       ∙ ap (λ z. empty g && z) (rw (empty-part t i n (N .inside), empty-part t n c (C .inside)) (leb-both i n c (N .on) (C .on)))
 
-  module _ (look : List ℕ → List ℕ) (z : List ℕ) where
+  module _ (look : Lookup) (z : List ℕ) where
     named-at : (a : List ℕ × Bool) (g : List ℕ) → named look a g (drop i t) ≡ argumentValue look a (part t i n) (not (empty g && leb c i)) (drop c t)
     unfolding named _>>=_
     named-at a g = rw (N .took, N .rest, C .took, C .rest, both-empty g) refl
@@ -186,7 +187,7 @@ module _ {t : List ℕ} {i n c : ℕ} (N : Spans word t i n) (C : Spans (either 
       }
 
 -- A ROUND: blanks and commas from i to g, then an argument, or none.
-module _ (look : List ℕ → List ℕ) (a : List ℕ × Bool) {t : List ℕ} {i g : ℕ} (G : Spans (either "," blank) t i g) where
+module _ (look : Lookup) (a : List ℕ × Bool) {t : List ℕ} {i g : ℕ} (G : Spans (either "," blank) t i g) where
   round-end : Sees (but ")") t g false → argumentRound look a (drop i t) ≡ (stop (arguments (a .0) (a .1)), drop g t)
   unfolding argumentRound _>>=_ ifR ret
   round-end M = rw (G .took, G .rest, M .says) refl
@@ -199,17 +200,17 @@ module _ (look : List ℕ → List ℕ) (a : List ℕ × Bool) {t : List ℕ} {i
   round-takes {e} f M s = round-named M ∙ s .turns a (part t i g) ∙ ap (λ z. (f a z, drop e t)) (ap (λ z. z && leb e g) (empty-part t i g (G .inside)) ∙ leb-both i g e (G .on) (s .on))
 
 -- THE ROUNDS: from i₀ on the arguments are read up to i.
-pub record ArgsAt (look : List ℕ → List ℕ) (z t : List ℕ) (i₀ i : ℕ) (lang : Lang) (block : Bool) : Type 0 where
+pub record ArgsAt (look : Lookup) (z t : List ℕ) (i₀ i : ℕ) (lang : Lang) (block : Bool) : Type 0 where
   pub on : i₀ ≤ i
   pub inside : i ≤ length t
   pub lies : Inside z t lang
   pub left : argumentsFrom look ([], false) (drop i₀ t) ≡ argumentsFrom look (langText look z t lang, block) (drop i t)
 
-pub args-start : (look : List ℕ → List ℕ) (z t : List ℕ) (i : ℕ) → i ≤ length t → ArgsAt look z t i i (Found 0 0) false
+pub args-start : (look : Lookup) (z t : List ℕ) (i : ℕ) → i ≤ length t → ArgsAt look z t i i (Found 0 0) false
 unfolding langText Inside
 args-start look z t i h = record { on = omega arith; inside = h; lies = (omega arith, omega arith); left = refl }
 
-module _ {look : List ℕ → List ℕ} {z t : List ℕ} {i₀ i : ℕ} {lang : Lang} {block : Bool} (x : ArgsAt look z t i₀ i lang block) where
+module _ {look : Lookup} {z t : List ℕ} {i₀ i : ℕ} {lang : Lang} {block : Bool} (x : ArgsAt look z t i₀ i lang block) where
   -- One round more, which has moved.
   args-next : {v : Lang} {d : Bool} {k : ℕ} → Inside z t v → k ≤ length t → argumentRound look (langText look z t lang, block) (drop i t) ≡ (again (langText look z t v, d), drop k t) → (i < k) × ArgsAt look z t i₀ k v d
   args-next {v} {d} {k} l j r =

@@ -6,11 +6,13 @@ use native.Mathlib.Omega.{arith}
 use lib.ListN.{length, take, drop, length-drop}
 use lib.Seq.{length-take-le}
 use Rattle.rules.specs.Bytes.{underscored}
+use Rattle.rules.specs.Sheet.{Lookup, textOf}
 use Rattle.rules.specs.Strings.{literal}
 use Rattle.scan.specs.Sets.{part}
 use Rattle.scan.specs.Laws.{tail-part}
 use Rattle.buffers.specs.Put.{after, Put}
-use Rattle.strings.specs.Read.{Wrote, Places}
+use Rattle.sheet.specs.Find.{Places}
+use Rattle.strings.specs.Read.{Wrote}
 use Rattle.calls.specs.declared.measure.Measured.{Measured}
 use Rattle.calls.specs.Measure.{MeasuresRead}
 use Rattle.raw_arguments.specs.declared.Lang.{Lang}
@@ -18,7 +20,7 @@ use Rattle.raw_arguments.specs.declared.Lang.the-variants.{Literal, Refe
 use Rattle.raw_arguments.specs.Args.{langText, Inside}
 
 -- r has the same text as l.
-pub record LooksUp (look : List ℕ → List ℕ) (z t : List ℕ) (l r : Lang) : Type 0 where
+pub record LooksUp (look : Lookup) (z t : List ℕ) (l r : Lang) : Type 0 where
   pub lies : Inside z t r
   pub same : langText look z t r ≡ langText look z t l
 
@@ -40,12 +42,12 @@ module _ (z t : List ℕ) {l : Lang} (i : Inside z t l) where
 part-length : (s : List ℕ) (a e : ℕ) → a ≤ e → e ≤ length s → length (part s a e) ≡ e - a
 part-length s a e h k = length-take-le (e - a) (drop a s) (omega (arith, length-drop a s))
 
-module _ (look : List ℕ → List ℕ) (z t : List ℕ) {l : Lang} where
+module _ (look : Lookup) (z t : List ℕ) {l : Lang} where
   -- LOOKED UP.
   pub looks-same : {r : Lang} → l ≡ r → Inside z t l → LooksUp look z t l r
   looks-same e i = record { lies = rw e at i; same = ap (langText look z t) (sym e) }
 
-  pub looks-up : {a e x y : ℕ} → l ≡ Reference a e → Places z (look (underscored (part t a e))) x y → LooksUp look z t l (Found x y)
+  pub looks-up : {a e x y : ℕ} → l ≡ Reference a e → Places z (textOf (look (underscored (part t a e)))) x y → LooksUp look z t l (Found x y)
   unfolding langText Inside
   looks-up q p = record { lies = (p .on, p .inside); same = p .text ∙ sym (ap (langText look z t) q) }
 
@@ -54,7 +56,7 @@ module _ (look : List ℕ → List ℕ) (z t : List ℕ) {l : Lang} where
   unfolding langText
   measures-literal q {room} w = w .size .len ∙ ap (λ x. after room 0 (length (literal x .0))) (tail-part t _) ∙ ap (λ x. after room 0 (length (langText look z t x))) (sym q)
 
-  pub measures-reference : {a e x y : ℕ} → l ≡ Reference a e → Places z (look (underscored (part t a e))) x y → (room : ℕ) → after room 0 (y - x) ≡ after room 0 (length (langText look z t l))
+  pub measures-reference : {a e x y : ℕ} → l ≡ Reference a e → Places z (textOf (look (underscored (part t a e)))) x y → (room : ℕ) → after room 0 (y - x) ≡ after room 0 (length (langText look z t l))
   unfolding langText
   measures-reference {x = x} {y = y} q p room = ap (after room 0) (sym (part-length z x y (p .on) (p .inside)) ∙ ap length (p .text)) ∙ ap (λ u. after room 0 (length (langText look z t u))) (sym q)
 
@@ -68,7 +70,7 @@ module _ (look : List ℕ → List ℕ) (z t : List ℕ) {l : Lang} where
     unfolding langText
     put-literal e w = rw e (rw tail-part at (w .put))
 
-    pub put-reference : {a e : ℕ} → l ≡ Reference a e → Put room o p (look (underscored (part t a e))) c q → Put room o p (langText look z t l) c q
+    pub put-reference : {a e : ℕ} → l ≡ Reference a e → Put room o p (textOf (look (underscored (part t a e)))) c q → Put room o p (langText look z t l) c q
     unfolding langText
     put-reference e w = rw e w
 

@@ -3,7 +3,7 @@ use crate::Lang;
 ghost use mathlib.Core.Path.{_≡_};
 ghost use Prim.Native.Nat.{_+_, _^_, _≤_, _<_};
 ghost use lib.ListN.{length};
-ghost use Rattle.rules.specs.Sheet.{resolveString};
+ghost use Rattle.rules.specs.Sheet.{resolve};
 ghost use Rattle.sheet.specs.Find.{IsSheet};
 ghost use Rattle.buffers.specs.Put.{after, Writer, Put};
 ghost use Rattle.raw_arguments.specs.Args.{langText, Inside};
@@ -12,7 +12,7 @@ ghost use Rattle.raw_arguments.specs.Lang.{LooksUp};
 // A reference as the part of the sheet in which it is found.
 pub fn look_up(text: &[u8], sheet: &[u8], lang: Lang) -> Lang
     requires { ⌜ Inside (now sheet) (now text) lang × IsSheet (now sheet) ⌝ }
-    ensures { λ r. ⌜ ((s : IsSheet (now (sheet .entry))) → LooksUp (resolveString (s .r)) (now (sheet .entry)) (now (text .entry)) lang r) ⌝ }
+    ensures { λ r. ⌜ ((s : IsSheet (now (sheet .entry))) → LooksUp (resolve (s .r)) (now (sheet .entry)) (now (text .entry)) lang r) ⌝ }
 {
     match lang {
         Lang::Literal { from } => Lang::Literal { from },
@@ -30,7 +30,7 @@ pub fn look_up(text: &[u8], sheet: &[u8], lang: Lang) -> Lang
 // How long the text is, as far as the room goes.
 pub fn measure(text: &[u8], sheet: &[u8], lang: Lang, room: usize) -> usize
     requires { ⌜ Inside (now sheet) (now text) lang × (room + 1 < 2 ^ 64) × IsSheet (now sheet) ⌝ }
-    ensures { λ r. ⌜ ((s : IsSheet (now (sheet .entry))) → r ≡ after room 0 (length (langText (resolveString (s .r)) (now (sheet .entry)) (now (text .entry)) lang))) ⌝ }
+    ensures { λ r. ⌜ ((s : IsSheet (now (sheet .entry))) → r ≡ after room 0 (length (langText (resolve (s .r)) (now (sheet .entry)) (now (text .entry)) lang))) ⌝ }
 {
     match lang {
         Lang::Literal { from } => {
@@ -49,7 +49,7 @@ pub fn measure(text: &[u8], sheet: &[u8], lang: Lang, room: usize) -> usize
 // Puts the text.
 pub fn put(text: &[u8], sheet: &[u8], lang: Lang, out: &mut [u8], room: usize, p: usize) -> usize
     requires { ⌜ Inside (now sheet) (now text) lang × Writer room p × (length (now out) ≤ room) × IsSheet (now sheet) ⌝ }
-    ensures { λ r. ⌜ ((s : IsSheet (now (sheet .entry))) → Put room (now (out .entry)) p (langText (resolveString (s .r)) (now (sheet .entry)) (now (text .entry)) lang) (now (out .exit)) r) ⌝ }
+    ensures { λ r. ⌜ ((s : IsSheet (now (sheet .entry))) → Put room (now (out .entry)) p (langText (resolve (s .r)) (now (sheet .entry)) (now (text .entry)) lang) (now (out .exit)) r) ⌝ }
 {
     match lang {
         Lang::Literal { from } => {

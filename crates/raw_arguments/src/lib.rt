@@ -2,6 +2,7 @@
 ghost use mathlib.Core.List.{List};
 ghost use Prim.Native.Nat.{ℕ, _≤_};
 ghost use lib.ListN.{length};
+ghost use Rattle.rules.specs.Sheet.{Lookup};
 ghost use Rattle.raw_arguments.specs.Args.{IsLanguage, Sets, IsArguments};
 
 pub mod language_text;
@@ -23,7 +24,7 @@ pub struct LangRead {
 // What `lang` takes: a literal at `"`, else a reference.
 fn language(text: &[u8], at: usize) -> LangRead
     requires { ⌜ at ≤ length (now text) ⌝ }
-    ensures { λ r. ⌜ ((look : List ℕ → List ℕ) (z : List ℕ) → IsLanguage look z (now (text .entry)) at r) ⌝ }
+    ensures { λ r. ⌜ ((look : Lookup) (z : List ℕ) → IsLanguage look z (now (text .entry)) at r) ⌝ }
 {
     if scan::at(text, at, b'"') {
         let n = string_ends::literal_end(&text[at + 1..]);
@@ -49,7 +50,7 @@ pub enum Setting {
 // The argument whose name begins at a place. The name may be empty.
 fn argument(text: &[u8], at: usize) -> Setting
     requires { ⌜ at ≤ length (now text) ⌝ }
-    ensures { λ r. ⌜ ((look : List ℕ → List ℕ) (z : List ℕ) → Sets look z (now (text .entry)) at r) ⌝ }
+    ensures { λ r. ⌜ ((look : Lookup) (z : List ℕ) → Sets look z (now (text .entry)) at r) ⌝ }
 {
     let end = scan::span(text, at, scan::Set::Word);
     let from = scan::span(text, end, scan::Set::ColonOrBlank);
@@ -78,7 +79,7 @@ pub struct Args {
 // later argument replaces an earlier one.
 pub fn arguments(text: &[u8], at: usize) -> Args
     requires { ⌜ at ≤ length (now text) ⌝ }
-    ensures { λ r. ⌜ ((look : List ℕ → List ℕ) (z : List ℕ) → IsArguments look z (now (text .entry)) at r) ⌝ }
+    ensures { λ r. ⌜ ((look : Lookup) (z : List ℕ) → IsArguments look z (now (text .entry)) at r) ⌝ }
 {
     let mut i = at;
     let mut lang = Lang::Found { from: 0, to: 0 };

@@ -9,7 +9,7 @@ use lib.Seq.{sets}
 use Rattle.rules.specs.Reader.{bytes, the, ret, _>>=_, _>>_}
 use Rattle.rules.specs.Bytes.{blank, trimEnd}
 use Rattle.rules.specs.Files.{View}
-use Rattle.rules.specs.Sheet.{resolveString}
+use Rattle.rules.specs.Sheet.{Lookup, resolve}
 use Rattle.rules.specs.Expansion.{rawText, rawEnd, rawArguments, raw, content}
 use Rattle.scan.specs.Sets.{Spans, Sees, Skips, byteIs}
 use Rattle.paths.specs.Paths.{trim-first}
@@ -32,7 +32,7 @@ use Rattle.raw_content.specs.Content.{valueText, Inside, asContent, Sized, Cont
 -- A content lies inside the bundle b, the sheet z and the text t, and measures m.
 pub record Holds (room : ℕ) (b z t : List ℕ) (v : Value) (m : Measure) : Type 0 where
   pub inside : Inside b z t v
-  pub size : (s : IsSheet z) → Measures room (valueText (resolveString (s .r)) b z t v) m
+  pub size : (s : IsSheet z) → Measures room (valueText (resolve (s .r)) b z t v) m
 
 -- MEASURED. C: the content, L: the language.
 module _ (room p : ℕ) (C : List ℕ) {m : Measure} (M : Measures room C m) where
@@ -116,12 +116,12 @@ module _ (C L : List ℕ) {b : Bool} {room : ℕ} {o : List ℕ} {p : ℕ} {c : 
   unfolding rawText
   raw-line e f = rw e f
 
-pub given-holds : {room : ℕ} {b z t : List ℕ} {c : CallContent} {m : Measure} {v : Value} → c ≡ Given v → ((s : IsSheet z) → Sized room (resolveString (s .r)) b z t c m) → IsSheet z → Holds room b z t v m
+pub given-holds : {room : ℕ} {b z t : List ℕ} {c : CallContent} {m : Measure} {v : Value} → c ≡ Given v → ((s : IsSheet z) → Sized room (resolve (s .r)) b z t c m) → IsSheet z → Holds room b z t v m
 unfolding Sized
 given-holds e f s₀ = record { inside = (rw e at (f s₀)) .0; size = λ s. (rw e at (f s)) .1 }
 
 -- THE CALL, by what was read.
-module _ {room : ℕ} (v : View) (look : List ℕ → List ℕ) {b z t : List ℕ} {at i : ℕ} (l : Spans blank t at i) {c : ContentRead} (m : Contents room (content v look (drop i t)) look b z t i c) {o : List ℕ} {p : ℕ} where
+module _ {room : ℕ} (v : View) (look : Lookup) {b z t : List ℕ} {at i : ℕ} (l : Spans blank t at i) {c : ContentRead} (m : Contents room (content v look (drop i t)) look b z t i c) {o : List ℕ} {p : ℕ} where
   pub raw-back : c .content ≡ HandedBack → Calls room (raw v look (drop at t)) t at o p o (record { outcome = Back; at = c .at })
   unfolding raw rawArguments asContent Says _>>=_ _>>_ ret
   raw-back e = record { on = omega (arith, l .on, m .on); inside = m .inside; size = refl; says = (rw (l .rest, m .says, e) refl, refl) }

@@ -19,7 +19,7 @@ ghost use lib.ListN.{length, take, drop};
 ghost use lib.Seq.{sets};
 ghost use Rattle.rules.specs.Bundle.{bundleOf};
 ghost use Rattle.rules.specs.Files.{view};
-ghost use Rattle.rules.specs.Sheet.{resolveString};
+ghost use Rattle.rules.specs.Sheet.{resolve};
 ghost use Rattle.rules.specs.Expansion.{rawText, raw};
 ghost use Rattle.rules.specs.Laws.Bool.{isSome};
 ghost use Rattle.buffers.specs.Emits.{Fills};
@@ -43,7 +43,7 @@ fn put_first(
     end: usize,
 ) -> usize
     requires { ⌜ Inside (now b) (now sheet) (now text) content × Writer room k × (k ≤ end) × (length (now out) ≤ room) × IsSheet (now sheet) ⌝ }
-    ensures { λ r. ⌜ (r ≡ end) × ((s : IsSheet (now (sheet .entry))) → now (out .exit) ≡ sets (now (out .entry)) k (take (end - k) (valueText (resolveString (s .r)) (now (b .entry)) (now (sheet .entry)) (now (text .entry)) content))) ⌝ }
+    ensures { λ r. ⌜ (r ≡ end) × ((s : IsSheet (now (sheet .entry))) → now (out .exit) ≡ sets (now (out .entry)) k (take (end - k) (valueText (resolve (s .r)) (now (b .entry)) (now (sheet .entry)) (now (text .entry)) content))) ⌝ }
 {
     if out.len() <= end {
         put_content(b, text, sheet, content, out, room, k);
@@ -65,7 +65,7 @@ fn put_line(
     p: usize,
 ) -> usize
     requires { ⌜ Holds room (now b) (now sheet) (now text) content size × Writer room p × (length (now out) ≤ room) × IsSheet (now sheet) ⌝ }
-    ensures { λ r. ⌜ ((s : IsSheet (now (sheet .entry))) → Fills room (now (out .entry)) p (rawText (valueText (resolveString (s .r)) (now (b .entry)) (now (sheet .entry)) (now (text .entry)) content) [] false) (now (out .exit)) r) ⌝ }
+    ensures { λ r. ⌜ ((s : IsSheet (now (sheet .entry))) → Fills room (now (out .entry)) p (rawText (valueText (resolve (s .r)) (now (b .entry)) (now (sheet .entry)) (now (text .entry)) content) [] false) (now (out .exit)) r) ⌝ }
 {
     let end = after(room, after(room, p, 2), size.len);
     if room < end {
@@ -89,7 +89,7 @@ fn put_block(
     p: usize,
 ) -> usize
     requires { ⌜ Holds room (now b) (now sheet) (now text) content size × LangInside (now sheet) (now text) lang × Writer room p × (length (now out) ≤ room) × IsSheet (now sheet) ⌝ }
-    ensures { λ r. ⌜ ((s : IsSheet (now (sheet .entry))) → Fills room (now (out .entry)) p (rawText (valueText (resolveString (s .r)) (now (b .entry)) (now (sheet .entry)) (now (text .entry)) content) (langText (resolveString (s .r)) (now (sheet .entry)) (now (text .entry)) lang) true) (now (out .exit)) r) ⌝ }
+    ensures { λ r. ⌜ ((s : IsSheet (now (sheet .entry))) → Fills room (now (out .entry)) p (rawText (valueText (resolve (s .r)) (now (b .entry)) (now (sheet .entry)) (now (text .entry)) content) (langText (resolve (s .r)) (now (sheet .entry)) (now (text .entry)) lang) true) (now (out .exit)) r) ⌝ }
 {
     let found = language_text::look_up(text, sheet, lang);
     let n = language_text::measure(text, sheet, found, room);
@@ -119,7 +119,7 @@ fn put_raw(
     p: usize,
 ) -> usize
     requires { ⌜ Holds room (now b) (now sheet) (now text) content size × LangInside (now sheet) (now text) lang × Writer room p × (length (now out) ≤ room) × IsSheet (now sheet) ⌝ }
-    ensures { λ r. ⌜ ((s : IsSheet (now (sheet .entry))) → Fills room (now (out .entry)) p (rawText (valueText (resolveString (s .r)) (now (b .entry)) (now (sheet .entry)) (now (text .entry)) content) (langText (resolveString (s .r)) (now (sheet .entry)) (now (text .entry)) lang) block) (now (out .exit)) r) ⌝ }
+    ensures { λ r. ⌜ ((s : IsSheet (now (sheet .entry))) → Fills room (now (out .entry)) p (rawText (valueText (resolve (s .r)) (now (b .entry)) (now (sheet .entry)) (now (text .entry)) content) (langText (resolve (s .r)) (now (sheet .entry)) (now (text .entry)) lang) block) (now (out .exit)) r) ⌝ }
 {
     if block {
         return put_block(b, text, sheet, content, size, lang, out, room, p);
@@ -138,7 +138,7 @@ pub fn raw(
     p: usize,
 ) -> Called
     requires { ⌜ (isSome (bundleOf (now b)) ≡ true) × (at ≤ length (now text)) × Writer room p × (length (now out) ≤ room) × IsSheet (now sheet) ⌝ }
-    ensures { λ r. ⌜ ((s : IsSheet (now (sheet .entry))) → Calls room (raw (view (entriesOf (now (b .entry)))) (resolveString (s .r)) (drop at (now (text .entry)))) (now (text .entry)) at (now (out .entry)) p (now (out .exit)) r) ⌝ }
+    ensures { λ r. ⌜ ((s : IsSheet (now (sheet .entry))) → Calls room (raw (view (entriesOf (now (b .entry)))) (resolve (s .r)) (drop at (now (text .entry)))) (now (text .entry)) at (now (out .entry)) p (now (out .exit)) r) ⌝ }
 {
     let i = scan::span(text, at, Set::Blank);
     let c = raw_content(b, text, i, sheet, room);

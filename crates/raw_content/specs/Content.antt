@@ -11,6 +11,7 @@ use borrow.Author.Tests.{lt-leb, eq-eqb, ne-eqb, eqb-true, eqb-false}
 use Rattle.rules.specs.Answer.{Answer}
 use Rattle.rules.specs.Reader.{bytes, but, prefix, sees, mark, ret, ifR, _>>=_, _>>_}
 use Rattle.rules.specs.Bytes.{blank, runByte, underscored}
+use Rattle.rules.specs.Sheet.{Lookup, textOf}
 use Rattle.rules.specs.Strings.{reference, expression}
 use Rattle.rules.specs.Files.{View, opened}
 use Rattle.rules.specs.Expansion.{Content, handedBack, noContent, given, rawContent, withoutSlash, readCall, content}
@@ -19,7 +20,8 @@ use Rattle.scan.specs.Laws.{sees-the, skips-at, mark-of, mark-yes, mark-no}
 use Rattle.scan.specs.Laws.{drop-take, tail-part}
 use Rattle.bundle.specs.Open.{Opens, answerOf, stop, long-opened}
 use Rattle.buffers.specs.Put.{Put}
-use Rattle.strings.specs.Read.{Wrote, Places}
+use Rattle.sheet.specs.Find.{Places}
+use Rattle.strings.specs.Read.{Wrote}
 use Rattle.strings.specs.Paths.{PathIn}
 use Rattle.bundle.specs.declared.Opened.{Opened}
 use Rattle.bundle.specs.declared.Opened.the-variants.{Refused, Text}
@@ -33,7 +35,7 @@ use Rattle.raw_content.specs.declared.CallContent.the-variants.{Given, H
 use Rattle.raw_content.specs.declared.ContentRead.{ContentRead}
 
 -- A content's text: `look` answers the text that a lookup gives; b: the bundle's bytes; z: the sheet's; t: the text that is read.
-unfoldable pub valueText : (List ℕ → List ℕ) → List ℕ → List ℕ → List ℕ → Value → List ℕ
+unfoldable pub valueText : Lookup → List ℕ → List ℕ → List ℕ → Value → List ℕ
 valueText look b z t (Expression a) = expression look (drop a t) .0
 valueText look b z t (Found a e) = part z a e
 valueText look b z t (File a e) = part b a e
@@ -45,19 +47,19 @@ Inside b z t (Found a e) = (a ≤ e) × (e ≤ length z)
 Inside b z t (File a e) = (a ≤ e) × (e ≤ length b)
 
 -- The rules' content of what is told.
-unfoldable pub asContent : (List ℕ → List ℕ) → List ℕ → List ℕ → List ℕ → CallContent → Content
+unfoldable pub asContent : Lookup → List ℕ → List ℕ → List ℕ → CallContent → Content
 asContent look b z t (Given v) = given (valueText look b z t v)
 asContent look b z t HandedBack = handedBack
 asContent look b z t (Bad k) = noContent k
 
 -- A content that is given lies inside, and measures m.
-unfoldable pub Sized : ℕ → (List ℕ → List ℕ) → List ℕ → List ℕ → List ℕ → CallContent → Measure → Type 0
+unfoldable pub Sized : ℕ → Lookup → List ℕ → List ℕ → List ℕ → CallContent → Measure → Type 0
 Sized room look b z t (Given v) m = Inside b z t v × Measures room (valueText look b z t v) m
 Sized room look b z t HandedBack m = Unit {0}
 Sized room look b z t (Bad k) m = Unit {0}
 
 -- c: what the rules read, from i on.
-pub record Contents (room : ℕ) (c : Content × List ℕ) (look : List ℕ → List ℕ) (b z t : List ℕ) (i : ℕ) (r : ContentRead) : Type 0 where
+pub record Contents (room : ℕ) (c : Content × List ℕ) (look : Lookup) (b z t : List ℕ) (i : ℕ) (r : ContentRead) : Type 0 where
   pub on : i ≤ r .at
   pub inside : r .at ≤ length t
   pub sized : Sized room look b z t (r .content) (r .size)
@@ -118,13 +120,13 @@ file-text b j e h = rw e (refl, refl, h)
 pub file-stop : {f : Opened} {s n k : ℕ} → f ≡ Text s n → stop f ≤ k → s + n ≤ k
 file-stop e h = rw e at h
 
-content-says : (room : ℕ) (look : List ℕ → List ℕ) (b z t : List ℕ) {a : Answer (List ℕ)} (j : ℕ) (f : Opened) (r : ContentRead) → Opens b a f → FileIs room b j f r → (r .at ≡ j) × (rawContent a ≡ asContent look b z t (r .content)) × Sized room look b z t (r .content) (r .size)
+content-says : (room : ℕ) (look : Lookup) (b z t : List ℕ) {a : Answer (List ℕ)} (j : ℕ) (f : Opened) (r : ContentRead) → Opens b a f → FileIs room b j f r → (r .at ≡ j) × (rawContent a ≡ asContent look b z t (r .content)) × Sized room look b z t (r .content) (r .size)
 unfolding FileIs rawContent asContent Sized valueText Inside answerOf
 content-says room look b z t j (Refused k) r o h = (h .0, rw (h .1, o .says) refl, rw (h .1) tt)
 content-says room look b z t j (Text s n) r o h = let y : s + n - s ≡ n = omega arith in (h .0, rw (h .1, o .says) (rw y refl), rw (h .1) ((omega arith, o .inside), h .2))
 
 -- `read`, by what the scans gave.
-module _ (room : ℕ) (v : View) (look : List ℕ → List ℕ) {b z t : List ℕ} {at i : ℕ} (l : Spans blank t at i) {c : Bool} (q : Sees (byteIs 40) t i c) where
+module _ (room : ℕ) (v : View) (look : Lookup) {b z t : List ℕ} {at i : ℕ} (l : Spans blank t at i) {c : Bool} (q : Sees (byteIs 40) t i c) where
   pub read-back : {r : ContentRead} → c ≡ false → r ≡ withoutText HandedBack i → Contents room (readCall v look (drop at t)) look b z t at r
   unfolding readCall asContent Sized _>>=_ _>>_ ifR ret
   read-back e h = rw h (record { on = l .on; inside = l .inside; sized = tt; says = rw (l .rest, sees-the "(" q e .says) refl })
@@ -151,7 +153,7 @@ module _ (room : ℕ) (v : View) (look : List ℕ → List ℕ) {b z t : List �
       reads = unfold readCall _>>=_ _>>_ ifR ret in (rw (l .rest, sees-the "(" q e .says, skips-at t i (q .there e) .rest, behind, x .rest, y .rest, tail) refl)
 
 -- The content, by what the scans gave.
-module _ {room : ℕ} (v : View) (look : List ℕ → List ℕ) {b z t : List ℕ} {i : ℕ} (h : i ≤ length t) {c : Bool} (q : Sees (byteIs 34) t i c) where
+module _ {room : ℕ} (v : View) (look : Lookup) {b z t : List ℕ} {i : ℕ} (h : i ≤ length t) {c : Bool} (q : Sees (byteIs 34) t i c) where
   pub content-expression : c ≡ true → {m : Measured} → MeasuresRead room (expression look (take (length t - i) (drop i t))) (take (length t - i) (drop i t)) m → Contents room (content v look (drop i t)) look b z t i (record { content = Given (Expression i); size = m .size; at = i + m .used })
   unfolding content asContent Sized valueText Inside _>>=_ _>>_ ifR ret
   content-expression e {m} w =
@@ -163,7 +165,7 @@ module _ {room : ℕ} (v : View) (look : List ℕ → List ℕ) {b z t : List �
     unfolding content _>>=_ _>>_ ifR ret
     content-read y w = record { on = omega (arith, w .on); inside = w .inside; sized = w .sized; says = rw (sees-the "\"" q e .says, mark-yes m y) (w .says) }
 
-    pub content-reference : d ≡ false → {k : ℕ} → Spans runByte t i k → {x y : ℕ} {s : Measure} → Places z (look (underscored (part t i k))) x y → Measures room (part z x y) s → Contents room (content v look (drop i t)) look b z t i (record { content = Given (Found x y); size = s; at = k })
+    pub content-reference : d ≡ false → {k : ℕ} → Spans runByte t i k → {x y : ℕ} {s : Measure} → Places z (textOf (look (underscored (part t i k)))) x y → Measures room (part z x y) s → Contents room (content v look (drop i t)) look b z t i (record { content = Given (Found x y); size = s; at = k })
     unfolding content reference asContent Sized valueText Inside _>>=_ _>>_ ifR ret
     content-reference y r p s = record { on = r .on; inside = r .inside; sized = ((p .on, p .inside), s); says = rw (sees-the "\"" q e .says, mark-no m y, r .took, r .rest, p .text) refl }
 
@@ -181,7 +183,7 @@ module _ (b z t : List ℕ) {v : Value} (i : Inside b z t v) where
   unfolding Inside
   inside-file q = rw q at i
 
-module _ (look : List ℕ → List ℕ) (b z t : List ℕ) {v : Value} {room : ℕ} {o : List ℕ} {p : ℕ} {c : List ℕ} {q : ℕ} where
+module _ (look : Lookup) (b z t : List ℕ) {v : Value} {room : ℕ} {o : List ℕ} {p : ℕ} {c : List ℕ} {q : ℕ} where
   pub put-expression : {a k : ℕ} → v ≡ Expression a → Wrote room (expression look (take (length t - a) (drop a t))) (take (length t - a) (drop a t)) o p c k q → Put room o p (valueText look b z t v) c q
   unfolding valueText
   put-expression e w = rw e (rw tail-part at (w .put))

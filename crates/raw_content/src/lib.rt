@@ -9,7 +9,7 @@ ghost use Prim.Native.Nat.{ℕ, _+_, _^_, _≤_, _<_};
 ghost use lib.ListN.{length, drop};
 ghost use Rattle.rules.specs.Bundle.{bundleOf};
 ghost use Rattle.rules.specs.Files.{view, opened};
-ghost use Rattle.rules.specs.Sheet.{resolveString};
+ghost use Rattle.rules.specs.Sheet.{resolve};
 ghost use Rattle.rules.specs.Expansion.{withoutSlash, readCall, content};
 ghost use Rattle.rules.specs.Laws.Bool.{isSome};
 ghost use Rattle.buffers.specs.Put.{Writer, Put};
@@ -90,7 +90,7 @@ fn file_content(b: &[u8], f: Opened, at: usize, room: usize) -> ContentRead
 // `read`, from behind it.
 fn read_call(b: &[u8], text: &[u8], at: usize, sheet: &[u8], room: usize) -> ContentRead
     requires { ⌜ (isSome (bundleOf (now b)) ≡ true) × (at ≤ length (now text)) × IsSheet (now sheet) × (room + 1 < 2 ^ 64) ⌝ }
-    ensures { λ r. ⌜ ((s : IsSheet (now (sheet .entry))) → Contents room (readCall (view (entriesOf (now (b .entry)))) (resolveString (s .r)) (drop at (now (text .entry)))) (resolveString (s .r)) (now (b .entry)) (now (sheet .entry)) (now (text .entry)) at r) ⌝ }
+    ensures { λ r. ⌜ ((s : IsSheet (now (sheet .entry))) → Contents room (readCall (view (entriesOf (now (b .entry)))) (resolve (s .r)) (drop at (now (text .entry)))) (resolve (s .r)) (now (b .entry)) (now (sheet .entry)) (now (text .entry)) at r) ⌝ }
 {
     let i = scan::span(text, at, Set::Blank);
     if !scan::at(text, i, b'(') {
@@ -107,7 +107,7 @@ fn read_call(b: &[u8], text: &[u8], at: usize, sheet: &[u8], room: usize) -> Con
 // A raw call's content, from behind its `(` and the blanks there.
 pub fn raw_content(b: &[u8], text: &[u8], at: usize, sheet: &[u8], room: usize) -> ContentRead
     requires { ⌜ (isSome (bundleOf (now b)) ≡ true) × (at ≤ length (now text)) × IsSheet (now sheet) × (room + 1 < 2 ^ 64) ⌝ }
-    ensures { λ r. ⌜ ((s : IsSheet (now (sheet .entry))) → Contents room (content (view (entriesOf (now (b .entry)))) (resolveString (s .r)) (drop at (now (text .entry)))) (resolveString (s .r)) (now (b .entry)) (now (sheet .entry)) (now (text .entry)) at r) ⌝ }
+    ensures { λ r. ⌜ ((s : IsSheet (now (sheet .entry))) → Contents room (content (view (entriesOf (now (b .entry)))) (resolve (s .r)) (drop at (now (text .entry)))) (resolve (s .r)) (now (b .entry)) (now (sheet .entry)) (now (text .entry)) at r) ⌝ }
 {
     if scan::at(text, at, b'"') {
         let m = calls::measure::expression(&text[at..], sheet, room);
@@ -144,7 +144,7 @@ pub fn put_content(
     p: usize,
 ) -> usize
     requires { ⌜ Inside (now b) (now sheet) (now text) value × Writer room p × (length (now out) ≤ room) × IsSheet (now sheet) ⌝ }
-    ensures { λ r. ⌜ ((s : IsSheet (now (sheet .entry))) → Put room (now (out .entry)) p (valueText (resolveString (s .r)) (now (b .entry)) (now (sheet .entry)) (now (text .entry)) value) (now (out .exit)) r) ⌝ }
+    ensures { λ r. ⌜ ((s : IsSheet (now (sheet .entry))) → Put room (now (out .entry)) p (valueText (resolve (s .r)) (now (b .entry)) (now (sheet .entry)) (now (text .entry)) value) (now (out .exit)) r) ⌝ }
 {
     match value {
         Value::Expression { from } => {

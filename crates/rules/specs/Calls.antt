@@ -12,7 +12,7 @@ use Rattle.rules.specs.Reader.{all}
 use Rattle.rules.specs.Bytes.{ascii, isPath, isFolder, parent}
 use Rattle.rules.specs.Bundle.{Entry, bundleOf}
 use Rattle.rules.specs.Files.{entryAt, isFolderOf, view, fetch}
-use Rattle.rules.specs.Sheet.{Records, encode, sheetLength, sheetOf, resolve, resolveString, kindOf}
+use Rattle.rules.specs.Sheet.{Value, Records, encode, sheetLength, sheetOf, resolve, kindOf, textOf}
 use Rattle.rules.specs.Pass.{middleText, expanded, passed, closed}
 use Rattle.rules.specs.Imports.{definitions}
 
@@ -34,45 +34,27 @@ pub record Holds (n len : ℕ) (buffer : List ℕ) : Type 0 where
   pub fits : len ≤ n
   pub behind : drop len buffer ≡ zeros (n - len)
 
--- KIND: 3, 6.
-pub record Kind : Type 0 where
+-- LOOKUP (E1): 3, 6, then 11 where a text is too long. It answers missing, none, a dictionary, or a text with its length and bytes.
+-- n: the length of `out`.
+pub record Looked : Type 0 where
   pub number : ℕ
   pub kind : ℕ
-
-unfoldable pub kindAnswer : Answer ℕ → Kind
-kindAnswer (refused k) = record { number = k; kind = 0 }
-kindAnswer (accepted c) = record { number = 0; kind = c }
-
-unfoldable pub resolveResult : List ℕ → List ℕ → Answer ℕ
-resolveResult sheet path = do
-  s ← orRefuse 3 (sheetOf sheet)
-  check 6 (all ascii path)
-  accepted (kindOf (resolve s path))
-
-unfoldable pub resolveOf : List ℕ → List ℕ → Kind
-resolveOf sheet path = kindAnswer (resolveResult sheet path)
-
--- An answer with one output buffer.
-pub record Output : Type 0 where
-  pub number : ℕ
   pub len : ℕ
   pub out : List ℕ
 
--- n: the buffer's length.
-unfoldable pub outputAnswer : ℕ → Answer (List ℕ) → Output
-outputAnswer n (refused k) = record { number = k; len = 0; out = zeros n }
-outputAnswer n (accepted o) = record { number = 0; len = length o; out = padded n o }
+unfoldable pub lookedAnswer : ℕ → Answer (Option Value) → Looked
+lookedAnswer n (refused k) = record { number = k; kind = 0; len = 0; out = zeros n }
+lookedAnswer n (accepted v) = record { number = 0; kind = kindOf v; len = length (textOf v); out = padded n (textOf v) }
 
--- TEXT: 3, 6, 11. n: the length of `out`.
-unfoldable pub resolveStringResult : List ℕ → List ℕ → ℕ → Answer (List ℕ)
-resolveStringResult sheet path n = do
+unfoldable pub resolveResult : List ℕ → List ℕ → ℕ → Answer (Option Value)
+resolveResult sheet path n = do
   s ← orRefuse 3 (sheetOf sheet)
   check 6 (all ascii path)
-  check 11 (leb (length (resolveString s path)) n)
-  accepted (resolveString s path)
+  check 11 (leb (length (textOf (resolve s path))) n)
+  accepted (resolve s path)
 
-unfoldable pub resolveStringOf : List ℕ → List ℕ → ℕ → Output
-resolveStringOf sheet path n = outputAnswer n (resolveStringResult sheet path n)
+unfoldable pub resolveOf : List ℕ → List ℕ → ℕ → Looked
+resolveOf sheet path n = lookedAnswer n (resolveResult sheet path n)
 
 -- FIND A FILE (not in 01: `manual` needs it): 2, 4. Kind: 0 absent, 1 folder, 2 file; a file's content stands at `start` in the bundle.
 pub record Found : Type 0 where
@@ -100,6 +82,15 @@ unfoldable pub findFileOf : List ℕ → List ℕ → Found
 findFileOf bundle path = foundAnswer (findFileResult bundle path)
 
 -- INCLUDES alone: 2, 4, 6, then in reading; a short output is 11. n: the length of `out`.
+pub record Output : Type 0 where
+  pub number : ℕ
+  pub len : ℕ
+  pub out : List ℕ
+
+unfoldable pub outputAnswer : ℕ → Answer (List ℕ) → Output
+outputAnswer n (refused k) = record { number = k; len = 0; out = zeros n }
+outputAnswer n (accepted o) = record { number = 0; len = length o; out = padded n o }
+
 unfoldable pub resolveIncludesResult : List ℕ → List ℕ → List ℕ → ℕ → Answer (List ℕ)
 resolveIncludesResult bundle folder text n = do
   es ← orRefuse 2 (bundleOf bundle)

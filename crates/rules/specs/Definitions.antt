@@ -7,18 +7,18 @@ use Rattle.rules.specs.Answer.{Answer, refused, accepted}
 use Rattle.rules.specs.Reader.{Reader, ret, ifR, _>>=_, _>>_, bytes, the, but, either, span, sees, skip, mark, rounds, Turn, again, stop}
 use Rattle.rules.specs.Run.{ok, fail, Did, Step}
 use Rattle.rules.specs.Bytes.{blank, lineBlank, letter, word, nameByte, underscored}
-use Rattle.rules.specs.Sheet.{Value, text, nothing, dictionary, Records, end, set, valueLength, resolveString}
+use Rattle.rules.specs.Sheet.{Value, text, nothing, dictionary, Records, end, set, valueLength, Lookup, resolve}
 use Rattle.rules.specs.Strings.{literal, expression}
 
 -- A value over L is refused. None and `()` are not measured alone: what holds them is longer and is measured next.
 unfoldable pub measured : ℕ → Value → Answer Value
 measured L v = elim (leb (valueLength v) L) [ true ↦ accepted v | false ↦ refused 9 ]
 
--- s: what is bound so far.
-module _ (L : ℕ) (s : Records) where
+-- look: the lookup in what is bound so far (E1).
+module _ (L : ℕ) (look : Lookup) where
   unfoldable pub textValue : Reader (Answer Value)
   textValue = do
-    t ← expression (resolveString s)
+    t ← expression look
     ret (measured L (text t))
 
   -- inner: the dictionary behind a `(`. At the end of the text every test fails and nothing is read: none.
@@ -108,11 +108,11 @@ module _ (L : ℕ) (imported : Records → List ℕ → Names → Answer Records
 
   -- `#let`: as in section 5, but newlines count as blanks to skip; then a value.
   unfoldable pub letStep : Step Records
-  letStep s = do
+  letStep s = let look = resolve s in do
     span blank
     n ← span nameByte
     span (either "=" blank)
-    w ← value L s (dictionaryValue L s 6)
+    w ← value L look (dictionaryValue L look 6)
     ret (letBound s (underscored n) w)
 
   -- `//` lines are skipped, and any other byte is, blanks among them.

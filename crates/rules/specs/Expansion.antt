@@ -1,4 +1,4 @@
--- Calls and expansion (01, section 5). `look` answers the text that a lookup gives.
+-- Calls and expansion (01, section 5).
 use mathlib.Core.Bool.{Bool, true, false, not, _&&_, _||_}
 use mathlib.Core.List.{List, [], _∷_, _++_}
 use mathlib.Core.Option.{Option, none, some}
@@ -8,7 +8,7 @@ use Rattle.rules.specs.Reader.{Reader, ret, ifR, _>>=_, _>>_, bytes, the
 use Rattle.rules.specs.Run.{ok, put, fail, Did, Step, Trace, run}
 use Rattle.rules.specs.Bytes.{blank, lineBlank, letter, word, nameByte, runByte, underscored, trim, trimEnd}
 use Rattle.rules.specs.Files.{View, opened}
-use Rattle.rules.specs.Sheet.{Value, text, Records, resolve, resolveString, set}
+use Rattle.rules.specs.Sheet.{Value, text, Records, Lookup, resolve, textOf, set}
 use Rattle.rules.specs.Strings.{literal, reference, expression}
 
 -- What a call comes to: handed back; refused; an output, and whether the call ends on its own `)` or `]`.
@@ -31,7 +31,7 @@ rawContent (accepted o) = given o
 unfoldable pub withoutSlash : List ℕ → List ℕ
 withoutSlash p = mark (bytes "/") p .1
 
-module _ (v : View) (look : List ℕ → List ℕ) where
+module _ (v : View) (look : Lookup) where
   -- Behind `read`: without `(` handed back; an expression as path, the folder empty; on behind the next `)`. The file is opened
   -- here: its 4, 5 and 6 come before 8.
   unfoldable pub readCall : Reader Content
@@ -62,7 +62,7 @@ pub data Arguments : Type 0 where
 abbrev pub Round : Type 0
 Round = Reader (Turn (List ℕ × Bool) Arguments)
 
-module _ (look : List ℕ → List ℕ) where
+module _ (look : Lookup) where
   -- `lang` takes a literal at `"`, else a reference.
   unfoldable pub langValue : Bool → Round
   langValue b = do
@@ -105,7 +105,7 @@ rawEnd o (arguments l b) = do
   skip
   ret (outputs e (rawText o l b))
 
-module _ (v : View) (look : List ℕ → List ℕ) where
+module _ (v : View) (look : Lookup) where
   unfoldable pub rawArguments : Content → Reader Call
   rawArguments handedBack = ret handsBack
   rawArguments (noContent k) = ret (refuses k)
@@ -148,7 +148,7 @@ linkEnd u = do
     skip
     ret (outputs e u))
 
-unfoldable pub link : (List ℕ → List ℕ) → Reader Call
+unfoldable pub link : Lookup → Reader Call
 link look = do
   span blank
   l ← sees (the "<")
@@ -189,44 +189,45 @@ unfoldable pub letValue : List ℕ → Option Value → Value
 letValue t none = text t
 letValue t (some w) = w
 
--- The name; line blanks and `=`; the rest of the line, trimmed. Drop the line.
-unfoldable pub letStep : Step Records
-letStep s = do
-  span lineBlank
-  n ← span nameByte
-  span (either "=" lineBlank)
-  r ← span (but "\n")
-  skip
-  ret (binds (set s (underscored n) (letValue (trim r) (resolve s (trim r)))))
+module _ (look : Lookup) where
+  -- The name; line blanks and `=`; the rest of the line, trimmed. Drop the line.
+  unfoldable pub letStep : Step Records
+  letStep s = do
+    span lineBlank
+    n ← span nameByte
+    span (either "=" lineBlank)
+    r ← span (but "\n")
+    skip
+    ret (binds (set s (underscored n) (letValue (trim r) (look (trim r)))))
 
--- `#` and a letter: the run. Before `(` output `#` and run unchanged; else the reference's text. `#` before any other byte is copied.
-unfoldable pub referenceStep : Step Records
-referenceStep s = do
-  l ← sees letter
-  ifR l
-      (do
-        r ← span runByte
-        p ← sees (the "(")
-        ifR p (ret (writes s (bytes "#" ++ r))) (ret (writes s (resolveString s (underscored r)))))
-      (ret (writes s (bytes "#")))
+  -- `#` and a letter: the run. Before `(` output `#` and run unchanged; else the reference's text. `#` before any other byte is copied.
+  unfoldable pub referenceStep : Step Records
+  referenceStep s = do
+    l ← sees letter
+    ifR l
+        (do
+          r ← span runByte
+          p ← sees (the "(")
+          ifR p (ret (writes s (bytes "#" ++ r))) (ret (writes s (textOf (look (underscored r))))))
+        (ret (writes s (bytes "#")))
 
 unfoldable pub copyStep : Step Records
 copyStep s [] = (binds s, [])
 copyStep s (x ∷ xs) = (writes s (x ∷ []), xs)
 
--- At each place, in this order, prefixes only.
+-- At each place, in this order, prefixes only. What the steps look up, they ask of one lookup (E1).
 unfoldable pub expansionStep : View → Step Records
-expansionStep v s = do
+expansionStep v s = let look = resolve s in do
   i ← mark (bytes "#import")
   ifR i (importStep s) (do
     l ← mark (bytes "#let")
-    ifR l (letStep s) (do
+    ifR l (letStep look s) (do
       r ← mark (bytes "#raw")
-      ifR r (callStep (bytes "#raw") (raw v (resolveString s)) s) (do
+      ifR r (callStep (bytes "#raw") (raw v look) s) (do
         k ← mark (bytes "#link")
-        ifR k (callStep (bytes "#link") (link (resolveString s)) s) (do
+        ifR k (callStep (bytes "#link") (link look) s) (do
           h ← mark (bytes "#")
-          ifR h (referenceStep s) (copyStep s)))))
+          ifR h (referenceStep look s) (copyStep s)))))
 
 unfoldable pub expansion : View → Records → List ℕ → Trace Records
 expansion v s t = run (expansionStep v) s 0 t

@@ -8,7 +8,7 @@ use Rattle.rules.specs.Reader.{all}
 use Rattle.rules.specs.Run.{run, limited}
 use Rattle.rules.specs.Bytes.{ascii, isPath, join, parent}
 use Rattle.rules.specs.Files.{View, File, absent, folder, file}
-use Rattle.rules.specs.Sheet.{Value, Records, end, rec, get, set, sheetLength}
+use Rattle.rules.specs.Sheet.{Value, Records, end, rec, Lookup, resolve, set, sheetLength}
 use Rattle.rules.specs.Definitions.{Names, star, listed, definitionStep}
 
 -- A binding, measured after it.
@@ -21,18 +21,18 @@ unfoldable pub bindIf : ℕ → Records → List ℕ → Option Value → Answer
 bindIf L s n none = accepted s
 bindIf L s n (some w) = bindOne L s n w
 
--- All records of r, in name order; those of the names that r has, in the order given.
+-- All records of r, in name order; the names that the lookup finds, in the order given (E1).
 unfoldable pub bindAll : ℕ → Records → Records → Answer Records
 bindAll L s end = accepted s
 bindAll L s (rec n w r) = bindOne L s n w >>= λ s′. bindAll L s′ r
 
-unfoldable pub bindListed : ℕ → Records → Records → List (List ℕ) → Answer Records
-bindListed L s r [] = accepted s
-bindListed L s r (n ∷ ns) = bindIf L s n (get r n) >>= λ s′. bindListed L s′ r ns
+unfoldable pub bindListed : ℕ → Records → Lookup → List (List ℕ) → Answer Records
+bindListed L s look [] = accepted s
+bindListed L s look (n ∷ ns) = bindIf L s n (look n) >>= λ s′. bindListed L s′ look ns
 
 unfoldable pub bindNames : ℕ → Records → Records → Names → Answer Records
 bindNames L s r star = bindAll L s r
-bindNames L s r (listed ns) = bindListed L s r ns
+bindNames L s r (listed ns) = bindListed L s (resolve r) ns
 
 module _ (L : ℕ) (v : View) where
   -- An imported path: absent is passed over, a folder is 5. inside: the sheet of a file with its folder and content.

@@ -131,7 +131,11 @@ unfoldable mutual
 unfoldable pub sheetOf : List ℕ → Option Records
 sheetOf b = bind (decode b) (λ r. elim (goodRecords r word 6 && leb (length b) 65535) [ true ↦ some r | false ↦ none ])
 
--- LOOKUP: the value under a name or key.
+-- LOOKUP: what a text is found as: missing (`none`), none, a dictionary, or a text. Sections 3, 5 and 7 know names by a lookup alone (E1).
+abbrev pub Lookup : Type 0
+Lookup = List ℕ → Option Value
+
+-- The value under a name or key.
 unfoldable pub get : Records → List ℕ → Option Value
 get end n = none
 get (rec m v r) n = elim (same m n) [ true ↦ some v | false ↦ get r n ]
@@ -149,7 +153,7 @@ getPieces s [] = none
 getPieces s (k ∷ ks) = bind (get s k) (getFields ks)
 
 -- A text is split at every `.`.
-unfoldable pub resolve : Records → List ℕ → Option Value
+unfoldable pub resolve : Records → Lookup
 resolve s t = getPieces s (split "." t)
 
 -- Kind: 0 missing, 1 none, 2 text, 3 dictionary. Text: empty unless kind 2.
@@ -164,9 +168,6 @@ textOf none = []
 textOf (some nothing) = []
 textOf (some (text t)) = t
 textOf (some (dictionary r)) = []
-
-unfoldable pub resolveString : Records → List ℕ → List ℕ
-resolveString s t = textOf (resolve s t)
 
 -- BINDING a name: in its place by order, or instead of the value that it had.
 unfoldable pub set : Records → List ℕ → Value → Records

@@ -5,6 +5,7 @@ use Prim.Native.Char.{code}
 use Prim.Native.Nat.{ℕ}
 use Rattle.rules.specs.Reader.{Reader, ret, ifR, _>>=_, _>>_, the, either, span, sees, skip, bytes, rounds, Turn, again, stop}
 use Rattle.rules.specs.Bytes.{letter, lineBlank, runByte, underscored}
+use Rattle.rules.specs.Sheet.{Lookup, textOf}
 
 -- What `\c` stands for: four escapes; any other keeps both bytes.
 unfoldable pub escape : ℕ → List ℕ
@@ -41,13 +42,12 @@ literalFrom (x ∷ xs) false =
 unfoldable pub literal : Reader (List ℕ)
 literal t = literalFrom t false
 
--- `look` answers the text that a lookup gives.
-module _ (look : List ℕ → List ℕ) where
-  -- A reference: a run with each `-` made `_`, then looked up.
+module _ (look : Lookup) where
+  -- A reference: a run with each `-` made `_`, then looked up; it stands for the text found, if any (E1).
   unfoldable pub reference : Reader (List ℕ)
   reference = do
     r ← span runByte
-    ret (look (underscored r))
+    ret (textOf (look (underscored r)))
 
   -- Behind a term: skip line blanks; `+` begins another round, else stop.
   unfoldable pub plus : List ℕ → Reader (Turn (List ℕ) (List ℕ))

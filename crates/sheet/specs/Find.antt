@@ -37,18 +37,12 @@ Gives s x None = x ≡ some nothing
 Gives s x (Text a b) = (t : List ℕ) × (x ≡ some (text t)) × Part s a t b
 Gives s x (Dictionary a b n) = (d : Records) × (x ≡ some (dictionary d)) × Part s a (encode d) b × (count d ≡ n)
 
--- The kind of each case (01, section 2), and the text that it holds.
+-- The kind of each case (01, section 2).
 unfoldable pub foundKind : Found → ℕ
 foundKind Missing = 0
 foundKind None = 1
 foundKind (Text a b) = 2
 foundKind (Dictionary a b n) = 3
-
-unfoldable pub foundText : List ℕ → Found → List ℕ
-foundText s Missing = []
-foundText s None = []
-foundText s (Text a b) = part s a b
-foundText s (Dictionary a b n) = []
 
 pub gives-kind : (s : List ℕ) (x : Option Value) (f : Found) → Gives s x f → foundKind f ≡ kindOf x
 unfolding Gives foundKind kindOf
@@ -57,12 +51,26 @@ gives-kind s x None g = rw g refl
 gives-kind s x (Text a b) g = rw (g .1) refl
 gives-kind s x (Dictionary a b n) g = rw (g .1) refl
 
-pub gives-string : (s : List ℕ) (x : Option Value) (f : Found) → Gives s x f → foundText s f ≡ textOf x
-unfolding Gives foundText textOf
-gives-string s x Missing g = rw g refl
-gives-string s x None g = rw g refl
-gives-string s x (Text a b) g = rw (g .1) (part-slice (g .2))
-gives-string s x (Dictionary a b n) g = rw (g .1) refl
+-- The text t is the part of s from a to b.
+pub record Places (s t : List ℕ) (a b : ℕ) : Type 0 where
+  pub on : a ≤ b
+  pub inside : b ≤ length s
+  pub text : part s a b ≡ t
+
+-- Where the text of each case stands: an empty part unless it is a text.
+pub places-text : {f : Found} {a b : ℕ} → f ≡ Text a b → (s : List ℕ) (x : Option Value) → Gives s x f → Places s (textOf x) a b
+unfolding Gives textOf
+places-text e s x g₀ = let g = rw e at g₀ in record { on = omega (arith, g .2 .ends); inside = g .2 .inside; text = rw (g .1) (part-slice (g .2)) }
+
+no-text : (x : Option Value) → (kindOf x ≡ 2 → ⊥) → textOf x ≡ []
+unfolding kindOf textOf
+no-text none h = refl
+no-text (some nothing) h = refl
+no-text (some (text t)) h = absurd (h refl)
+no-text (some (dictionary r)) h = refl
+
+pub places-none : {f g : Found} → f ≡ g → (foundKind g ≡ 2 → ⊥) → (s : List ℕ) (x : Option Value) → Gives s x f → Places s (textOf x) 0 0
+places-none {f} e h s x g = record { on = omega arith; inside = omega arith; text = sym (no-text x (λ k. h (ap foundKind (sym e) ∙ gives-kind s x f g ∙ k))) }
 
 -- LAWS.
 -- A value of which the item o tells: its kind, its text, and its records.

@@ -7,15 +7,15 @@ use crate::head::read;
 ghost use mathlib.Core.Path.{_≡_};
 ghost use mathlib.Core.Bool.{true};
 ghost use mathlib.Core.List.{List};
-ghost use mathlib.Core.Option.{some};
+ghost use mathlib.Core.Option.{Option, some};
 ghost use Prim.Native.Nat.{ℕ};
 ghost use Rattle.rules.specs.Bytes.{word};
-ghost use Rattle.rules.specs.Sheet.{Value, Records, rec, encode, count, goodRecords, get, resolve};
+ghost use Rattle.rules.specs.Sheet.{Value, Records, rec, encode, count, goodRecords, get, resolve, textOf};
 ghost use Rattle.sheet.specs.Parts.{Part};
 ghost use Rattle.sheet.specs.Items.{At, Describes, Holding, Has};
 ghost use Rattle.sheet.specs.Order.{underscoreIf, underscoredIf, orderOf};
 ghost use Rattle.sheet.specs.Find.{HasRecords};
-ghost use Rattle.sheet.specs.Find.{Gives, Body, HasBody, Level, IsSheet};
+ghost use Rattle.sheet.specs.Find.{Gives, Places, Body, HasBody, Level, IsSheet};
 
 // What a lookup finds, with its place in the sheet.
 pub enum Found {
@@ -177,5 +177,27 @@ pub fn lookup(s: &[u8], path: &[u8], reference: bool) -> Found
         at = from;
         end = to;
         p = q + 1;
+    }
+}
+
+// A part of a sheet.
+pub struct Place {
+    pub from: usize,
+    pub to: usize,
+}
+
+// Where the text stands that a lookup found; an empty part where it found none (E1).
+pub fn text_place(found: Found) -> Place
+    ensures { λ r. ⌜ ((s : List ℕ) (x : Option Value) → Gives s x found → Places s (textOf x) (r .from) (r .to)) ⌝ }
+{
+    match found {
+        Found::Text { from, to } => Place { from: from, to: to },
+        Found::Missing => Place { from: 0, to: 0 },
+        Found::None => Place { from: 0, to: 0 },
+        Found::Dictionary {
+            from: _,
+            to: _,
+            count: _,
+        } => Place { from: 0, to: 0 },
     }
 }

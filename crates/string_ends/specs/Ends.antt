@@ -5,6 +5,7 @@ use mathlib.Core.Bool.{Bool, true, false}
 use Prim.Native.Nat.{ℕ, _≤_}
 use lib.ListN.{length, drop}
 use Rattle.rules.specs.Reader.{stop}
+use Rattle.rules.specs.Sheet.{Lookup}
 use Rattle.rules.specs.Strings.{plus, expressionRound}
 
 -- r: what a reader made of t, and its rest. It ends behind k bytes.
@@ -18,12 +19,12 @@ pub record Makes (r : List ℕ × List ℕ) (t : List ℕ) (k : ℕ) (v : List �
   pub text : r .0 ≡ v
 
 -- A round of an expression up to its `+`, with the text v. Found: reading goes on behind k bytes; else the round stops there.
-pub record IsRound (look : List ℕ → List ℕ) (found : Bool) (t : List ℕ) (k : ℕ) (v : List ℕ) : Type 0 where
+pub record IsRound (look : Lookup) (found : Bool) (t : List ℕ) (k : ℕ) (v : List ℕ) : Type 0 where
   pub inside : k ≤ length t
   pub goes : found ≡ true → (u : List ℕ) → expressionRound look u t ≡ plus look (u ++ v) (drop k t)
   pub stops : found ≡ false → (u : List ℕ) → expressionRound look u t ≡ (stop (u ++ v), drop k t)
 
 -- A round up to its `+` ends behind k bytes, for every lookup.
 pub record EndsRound (t : List ℕ) (found : Bool) (k : ℕ) : Type 0 where
-  pub text : (List ℕ → List ℕ) → List ℕ
-  pub round : (look : List ℕ → List ℕ) → IsRound look found t k (text look)
+  pub text : Lookup → List ℕ
+  pub round : (look : Lookup) → IsRound look found t k (text look)

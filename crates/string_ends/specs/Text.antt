@@ -2,6 +2,7 @@
 use mathlib.Core.Path.{_≡_, refl, sym, ap, _∙_}
 use mathlib.Core.List.{List, [], _∷_, _++_, append-assoc, append-nil}
 use mathlib.Core.Bool.{Bool, true, false, not, _&&_, true≢false}
+use mathlib.Core.Option.{none}
 use Prim.Native.Char.{Char, code}
 use Prim.Native.Nat.{ℕ, suc, _+_, _-_, _≤_, _<_}
 use native.Mathlib.Omega.{arith}
@@ -11,6 +12,7 @@ use lib.Seq.{drop-cons, drop-drop}
 use borrow.Author.Tests.{eq-eqb, ne-eqb}
 use Rattle.rules.specs.Reader.{ret, ifR, _>>=_, _>>_, the, but, either, span, rounds, again, stop}
 use Rattle.rules.specs.Bytes.{lineBlank, letter, runByte, underscored}
+use Rattle.rules.specs.Sheet.{Lookup, textOf}
 use Rattle.rules.specs.Strings.{escape, onto, literalFrom, literal, reference, plus, expressionRound, expression}
 use Rattle.rules.specs.Laws.Enough.{rounds-again, rounds-stop, expression-moving}
 use Rattle.scan.specs.Laws.{seen, skip-at, tail-part}
@@ -115,13 +117,13 @@ module _ {t : List ℕ} {i : ℕ} {v : List ℕ} (s : LiteralTo t i v) {j : ℕ}
           record { inside = omega arith; left = rw (add-two, add-one) (passed ∙ ap (onto _) (slash ∙ g) ∙ onto-onto _ _ _) }
 
 -- EXPRESSIONS. A round of one, by what the scans said.
-module _ (look : List ℕ → List ℕ) (t : List ℕ) (i : ℕ) (l : Spans lineBlank t 0 i) where
+module _ (look : Lookup) (t : List ℕ) (i : ℕ) (l : Spans lineBlank t 0 i) where
   round-literal : (k : ℕ) (a : List ℕ) → Sees (the "\"") t i true → literal (drop (i + 1) t) .1 ≡ drop k t → expressionRound look a t ≡ plus look (a ++ literal (drop (i + 1) t) .0) (drop k t)
   unfolding expressionRound _>>=_ _>>_ ifR
   round-literal k a q e = rw (l .rest, q .says, skip-at t i (q .there refl), e) refl
 
   round-reference : (k : ℕ) (a : List ℕ) → Sees (the "\"") t i false → Sees (either "_" letter) t i true → Spans runByte t i k →
-      expressionRound look a t ≡ plus look (a ++ look (underscored (take (k - i) (drop i t)))) (drop k t)
+      expressionRound look a t ≡ plus look (a ++ textOf (look (underscored (take (k - i) (drop i t))))) (drop k t)
   unfolding expressionRound reference _>>=_ _>>_ ifR ret
   round-reference k a q n r = rw (l .rest, q .says, n .says, r .took, r .rest) refl
 
@@ -130,7 +132,7 @@ module _ (look : List ℕ → List ℕ) (t : List ℕ) (i : ℕ) (l : Spans line
   round-stop a q n = rw (l .rest, q .says, n .says) refl
 
 -- Behind a term.
-module _ (look : List ℕ → List ℕ) (t : List ℕ) (i j : ℕ) (l : Spans lineBlank t i j) where
+module _ (look : Lookup) (t : List ℕ) (i j : ℕ) (l : Spans lineBlank t i j) where
   plus-again : (a : List ℕ) → Sees (the "+") t j true → plus look a (drop i t) ≡ (again a, drop (j + 1) t)
   unfolding plus _>>=_ _>>_ ifR ret
   plus-again a q = rw (l .rest, q .says, skip-at t j (q .there refl)) refl
@@ -140,7 +142,7 @@ module _ (look : List ℕ → List ℕ) (t : List ℕ) (i j : ℕ) (l : Spans li
   plus-stop a q = rw (l .rest, q .says) refl
 
 -- The ways through a round.
-module _ (look : List ℕ → List ℕ) {t : List ℕ} {i : ℕ} (l : Spans lineBlank t 0 i) {f : Bool} (q : Sees (the "\"") t i f) where
+module _ (look : Lookup) {t : List ℕ} {i : ℕ} (l : Spans lineBlank t 0 i) {f : Bool} (q : Sees (the "\"") t i f) where
   pub literal-round : {k : ℕ} → f ≡ true → Ends (literal (take (length t - (i + 1)) (drop (i + 1) t))) (take (length t - (i + 1)) (drop (i + 1) t)) k → IsRound look true t (i + 1 + k) (literal (take (length t - (i + 1)) (drop (i + 1) t)) .0)
   literal-round {k} e w =
       let h : i < length t = q .there e in
@@ -153,7 +155,7 @@ module _ (look : List ℕ → List ℕ) {t : List ℕ} {i : ℕ} (l : Spans line
       })
 
   module _ {g : Bool} (e : f ≡ false) (n : Sees (either "_" letter) t i g) where
-    pub reference-round : {k : ℕ} → g ≡ true → Spans runByte t i k → IsRound look true t k (look (underscored (take (k - i) (drop i t))))
+    pub reference-round : {k : ℕ} → g ≡ true → Spans runByte t i k → IsRound look true t k (textOf (look (underscored (take (k - i) (drop i t)))))
     reference-round {k} d m = record {
       inside = m .inside;
       goes = λ v z. round-reference look t i l k z (seen q e) (seen n d) m;
@@ -168,16 +170,16 @@ module _ (look : List ℕ → List ℕ) {t : List ℕ} {i : ℕ} (l : Spans line
     }
 
 -- An expression is read up to i; v is its text so far.
-pub record ExpressionTo (look : List ℕ → List ℕ) (t : List ℕ) (i : ℕ) (v : List ℕ) : Type 0 where
+pub record ExpressionTo (look : Lookup) (t : List ℕ) (i : ℕ) (v : List ℕ) : Type 0 where
   pub inside : i ≤ length t
   pub left : expression look t ≡ rounds (expressionRound look) (λ a. a) v (drop i t)
 
-pub expression-begun : (look : List ℕ → List ℕ) (t : List ℕ) → ExpressionTo look t 0 []
+pub expression-begun : (look : Lookup) (t : List ℕ) → ExpressionTo look t 0 []
 unfolding expression
 expression-begun look t = record { inside = omega arith; left = refl }
 
 -- A round of k bytes of the text from i on.
-module _ {look : List ℕ → List ℕ} {t : List ℕ} {i : ℕ} {v : List ℕ} (x : ExpressionTo look t i v) {f : Bool} {k : ℕ} {u : List ℕ} (M : IsRound look f (take (length t - i) (drop i t)) k u) where
+module _ {look : Lookup} {t : List ℕ} {i : ℕ} {v : List ℕ} (x : ExpressionTo look t i v) {f : Bool} {k : ℕ} {u : List ℕ} (M : IsRound look f (take (length t - i) (drop i t)) k u) where
   here : IsRound look f (drop i t) k u
   here = rw tail-part at M
 
@@ -207,8 +209,8 @@ module _ {look : List ℕ → List ℕ} {t : List ℕ} {i : ℕ} {v : List ℕ} 
 
 -- An expression is read up to i, for every lookup.
 pub record ExpressionEnds (t : List ℕ) (i : ℕ) : Type 0 where
-  pub text : (List ℕ → List ℕ) → List ℕ
-  pub to : (look : List ℕ → List ℕ) → ExpressionTo look t i (text look)
+  pub text : Lookup → List ℕ
+  pub to : (look : Lookup) → ExpressionTo look t i (text look)
 
 -- A literal is read up to i.
 pub record LiteralEnds (t : List ℕ) (i : ℕ) : Type 0 where
@@ -217,4 +219,4 @@ pub record LiteralEnds (t : List ℕ) (i : ℕ) : Type 0 where
 
 -- By a lookup that finds nothing: the round lies in the text.
 pub ends-inside : {t : List ℕ} {i : ℕ} → ExpressionEnds t i → {f : Bool} {k : ℕ} → EndsRound (take (length t - i) (drop i t)) f k → i + k ≤ length t
-ends-inside x M = round-inside (x .to (λ z. [])) (M .round (λ z. []))
+ends-inside x M = round-inside (x .to (λ z. none)) (M .round (λ z. none))

@@ -1,6 +1,5 @@
 // Where literals and expressions end (document 01, section 3): the same for every sheet, and found without their texts.
-ghost use mathlib.Core.List.{List};
-ghost use Prim.Native.Nat.{ℕ};
+ghost use Rattle.rules.specs.Sheet.{Lookup};
 ghost use Rattle.rules.specs.Strings.{literal, expression};
 ghost use Rattle.string_ends.specs.Ends.{Ends, EndsRound};
 
@@ -57,7 +56,7 @@ fn round_end(text: &[u8]) -> RoundEnd
 
 // Where an expression ends.
 pub fn expression_end(text: &[u8]) -> usize
-    ensures { λ k. ⌜ ((look : List ℕ → List ℕ) → Ends (expression look (now (text .entry))) (now (text .entry)) k) ⌝ }
+    ensures { λ k. ⌜ ((look : Lookup) → Ends (expression look (now (text .entry))) (now (text .entry)) k) ⌝ }
 {
     let mut i: usize = 0;
     loop {

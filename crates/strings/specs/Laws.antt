@@ -1,25 +1,22 @@
 -- Literals and expressions whose texts are added to what has come.
-use mathlib.Core.Path.{_≡_, refl, sym, ap, _∙_}
+use mathlib.Core.Path.{_≡_}
 use mathlib.Core.List.{List, [], _∷_}
 use mathlib.Core.Bool.{Bool, true, false}
-use mathlib.Core.Option.{Option}
 use Prim.Native.Nat.{ℕ, _+_, _-_, _≤_, _<_}
 use native.Mathlib.Omega.{arith}
 use lib.ListN.{length, take, drop, getD}
 use Rattle.rules.specs.Reader.{the, either}
 use Rattle.rules.specs.Bytes.{word, lineBlank, letter, runByte, underscored}
 use Rattle.rules.specs.Strings.{escape, literal, expression}
-use Rattle.rules.specs.Sheet.{Value, Records, encode, goodRecords, resolve, resolveString, textOf}
+use Rattle.rules.specs.Sheet.{Records, encode, goodRecords, Lookup, resolve, textOf}
 use Rattle.sheet.specs.declared.lookup.Found.{Found}
-use Rattle.sheet.specs.declared.lookup.Found.the-variants.{Text}
-use Rattle.sheet.specs.Parts.{part-slice}
 use Rattle.sheet.specs.Order.{underscoredIf}
-use Rattle.sheet.specs.Find.{IsSheet, Gives, foundText, gives-string}
+use Rattle.sheet.specs.Find.{IsSheet, Gives, Places}
 use Rattle.scan.specs.Sets.{part, plainByte, Spans, Sees}
 use Rattle.buffers.specs.Put.{Writer}
 use Rattle.strings.specs.declared.progress.Progress.{Progress}
 use Rattle.strings.specs.Progress.{Adds, adds-none, adds-then}
-use Rattle.strings.specs.Read.{beginning, Wrote, Took, IsTerm, Places}
+use Rattle.strings.specs.Read.{beginning, Wrote, Took, IsTerm}
 use Rattle.string_ends.specs.Ends.{Makes}
 use Rattle.string_ends.specs.Text.{LiteralTo, literal-begun, makes-end, makes-quote, makes-last, literal-on, literal-round, reference-round, no-round, ExpressionTo, expression-begun, round-inside, makes-none, makes-plus, expression-on}
 
@@ -52,49 +49,33 @@ module _ {room : ℕ} {o t b : List ℕ} {a : Progress} (l : length b ≤ room) 
       pub literal-escape : (length t - j ≡ 1 → ⊥) → Adds room o d r (escape (getD t (j + 1) 0)) e m → LiteralAt room o t b a e m (j + 2)
       literal-escape y z = record { text = _; to = literal-on (s .to) n h x y; adds = adds-then l (adds-then l (s .adds) u) z }
 
--- REFERENCES. What a lookup found, as a text.
-text-places : {s : List ℕ} (x : Option Value) {f : Found} {a b : ℕ} → Gives s x f → f ≡ Text a b → Places s (textOf x) a b
-unfolding Gives textOf
-text-places {s} x g e =
-    let h = rw e at g in
-    record { on = omega (arith, h .2 .ends); inside = h .2 .inside; text = part-slice (h .2) ∙ sym (ap textOf (h .1)) }
-
-module _ (s run : List ℕ) (f : Found) (told : (r : Records) → s ≡ encode r → goodRecords r word 6 ≡ true → Gives s (resolve r (underscoredIf true run)) f) (i : IsSheet s) where
-  -- What it gives for the sheet's records.
-  gives-run : Gives s (resolve (i .r) (underscored run)) f
-  unfolding underscoredIf
-  gives-run = told (i .r) (i .bytes) (i .good)
-
-  pub places-text : {x y : ℕ} → f ≡ Text x y → Places s (resolveString (i .r) (underscored run)) x y
-  unfolding resolveString
-  places-text e = text-places _ gives-run e
-
-  pub places-none : {g : Found} → f ≡ g → foundText s g ≡ [] → Places s (resolveString (i .r) (underscored run)) 0 0
-  unfolding resolveString
-  places-none {g} e k = record { on = omega arith; inside = omega arith; text = sym (sym (gives-string s _ f gives-run) ∙ ap (foundText s) e ∙ k) }
+-- REFERENCES. What the lookup of a run gives for the sheet's records.
+pub gives-run : (s run : List ℕ) (f : Found) → ((r : Records) → s ≡ encode r → goodRecords r word 6 ≡ true → Gives s (resolve r (underscoredIf true run)) f) → (i : IsSheet s) → Gives s (resolve (i .r) (underscored run)) f
+unfolding underscoredIf
+gives-run s run f told i = told (i .r) (i .bytes) (i .good)
 
 -- The ways through a round.
-module _ (look : List ℕ → List ℕ) {room : ℕ} {o t : List ℕ} {i : ℕ} (l : Spans lineBlank t 0 i) {f : Bool} (q : Sees (the "\"") t i f) {b : List ℕ} {a : Progress} where
+module _ (look : Lookup) {room : ℕ} {o t : List ℕ} {i : ℕ} (l : Spans lineBlank t 0 i) {f : Bool} (q : Sees (the "\"") t i f) {b : List ℕ} {a : Progress} where
   pub term-literal : {c : List ℕ} {k : ℕ} {r : Progress} → f ≡ true → Took room o (literal (take (length t - (i + 1)) (drop (i + 1) t))) (take (length t - (i + 1)) (drop (i + 1) t)) b a c k r → IsTerm look room o true t b a c (i + 1 + k) r
   term-literal e w = record { text = _; round = literal-round look l q e (record { inside = w .inside; rest = w .rest }); adds = w .adds }
 
   module _ {g : Bool} (e : f ≡ false) (n : Sees (either "_" letter) t i g) where
-    pub term-reference : {c : List ℕ} {k : ℕ} {r : Progress} {s : List ℕ} {x y : ℕ} → g ≡ true → Spans runByte t i k → Places s (look (underscored (take (k - i) (drop i t)))) x y → Adds room o b a (part s x y) c r → IsTerm look room o true t b a c k r
+    pub term-reference : {c : List ℕ} {k : ℕ} {r : Progress} {s : List ℕ} {x y : ℕ} → g ≡ true → Spans runByte t i k → Places s (textOf (look (underscored (take (k - i) (drop i t))))) x y → Adds room o b a (part s x y) c r → IsTerm look room o true t b a c k r
     term-reference d m h u = record { text = _; round = reference-round look l q e n d m; adds = rw (h .text) at u }
 
     pub term-stop : Writer room (a .next) → g ≡ false → IsTerm look room o false t b a b i a
     term-stop w d = record { text = []; round = no-round look l q e n d; adds = adds-none w o b }
 
 -- An expression is read up to i.
-pub record ExpressionAt (look : List ℕ → List ℕ) (room : ℕ) (o t b : List ℕ) (a : Progress) (c : List ℕ) (z : Progress) (i : ℕ) : Type 0 where
+pub record ExpressionAt (look : Lookup) (room : ℕ) (o t b : List ℕ) (a : Progress) (c : List ℕ) (z : Progress) (i : ℕ) : Type 0 where
   pub text : List ℕ
   pub to : ExpressionTo look t i text
   pub adds : Adds room o b a text c z
 
-pub expression-start : (look : List ℕ → List ℕ) {room : ℕ} {a : Progress} → Writer room (a .next) → (o t b : List ℕ) → ExpressionAt look room o t b a b a 0
+pub expression-start : (look : Lookup) {room : ℕ} {a : Progress} → Writer room (a .next) → (o t b : List ℕ) → ExpressionAt look room o t b a b a 0
 expression-start look w o t b = record { text = []; to = expression-begun look t; adds = adds-none w o b }
 
-module _ {look : List ℕ → List ℕ} {room : ℕ} {o t b : List ℕ} {a : Progress} (l : length b ≤ room) {c : List ℕ} {z : Progress} {i : ℕ} (x : ExpressionAt look room o t b a c z i)
+module _ {look : Lookup} {room : ℕ} {o t b : List ℕ} {a : Progress} (l : length b ≤ room) {c : List ℕ} {z : Progress} {i : ℕ} (x : ExpressionAt look room o t b a c z i)
     {f : Bool} {d : List ℕ} {k : ℕ} {r : Progress} (M : IsTerm look room o f (take (length t - i) (drop i t)) c z d k r) where
   pub term-inside : i + k ≤ length t
   term-inside = round-inside (x .to) (M .round)

@@ -4,7 +4,7 @@ use mathlib.Core.List.{List}
 use mathlib.Core.Bool.{Bool}
 use Prim.Native.Nat.{ℕ, _≤_}
 use lib.ListN.{length, drop}
-use Rattle.scan.specs.Sets.{part}
+use Rattle.rules.specs.Sheet.{Lookup}
 use Rattle.string_ends.specs.Ends.{IsRound}
 use Rattle.buffers.specs.Put.{Put}
 use Rattle.strings.specs.declared.progress.Progress.{Progress}
@@ -27,13 +27,7 @@ pub record Took (room : ℕ) (o : List ℕ) (v : List ℕ × List ℕ) (t b : Li
   pub adds : Adds room o b a (v .0) c z
 
 -- A round of an expression up to its `+`, whose text is added to what has come.
-pub record IsTerm (look : List ℕ → List ℕ) (room : ℕ) (o : List ℕ) (found : Bool) (t b : List ℕ) (a : Progress) (c : List ℕ) (k : ℕ) (z : Progress) : Type 0 where
+pub record IsTerm (look : Lookup) (room : ℕ) (o : List ℕ) (found : Bool) (t b : List ℕ) (a : Progress) (c : List ℕ) (k : ℕ) (z : Progress) : Type 0 where
   pub text : List ℕ
   pub round : IsRound look found t k text
   pub adds : Adds room o b a text c z
-
--- The text v lies in the sheet s, from x to y.
-pub record Places (s v : List ℕ) (x y : ℕ) : Type 0 where
-  pub on : x ≤ y
-  pub inside : y ≤ length s
-  pub text : part s x y ≡ v

@@ -5,7 +5,7 @@ use crate::progress::Progress;
 use crate::progress::add;
 ghost use Prim.Native.Nat.{_≤_};
 ghost use lib.ListN.{length};
-ghost use Rattle.rules.specs.Sheet.{resolveString};
+ghost use Rattle.rules.specs.Sheet.{resolve};
 ghost use Rattle.rules.specs.Strings.{escape, literal, expression};
 ghost use Rattle.sheet.specs.Find.{IsSheet};
 ghost use Rattle.buffers.specs.Put.{Writer};
@@ -77,7 +77,7 @@ pub fn term(
     a: Progress,
 ) -> Round
     requires { ⌜ Writer room (a .next) × (length (now out) ≤ room) × IsSheet (now sheet) ⌝ }
-    ensures { λ r. ⌜ ((s : IsSheet (now (sheet .entry))) → IsTerm (resolveString (s .r)) room (now (other .entry)) (r .found) (now (text .entry)) (now (out .entry)) a (now (out .exit)) (r .used) (r .to)) ⌝ }
+    ensures { λ r. ⌜ ((s : IsSheet (now (sheet .entry))) → IsTerm (resolve (s .r)) room (now (other .entry)) (r .found) (now (text .entry)) (now (out .entry)) a (now (out .exit)) (r .used) (r .to)) ⌝ }
 {
     let i = scan::span(text, 0, scan::Set::LineBlank);
     if scan::at(text, i, b'"') {
@@ -118,7 +118,7 @@ pub fn expression(
     a: Progress,
 ) -> Taken
     requires { ⌜ Writer room (a .next) × (length (now out) ≤ room) × IsSheet (now sheet) ⌝ }
-    ensures { λ r. ⌜ ((s : IsSheet (now (sheet .entry))) → Took room (now (other .entry)) (expression (resolveString (s .r)) (now (text .entry))) (now (text .entry)) (now (out .entry)) a (now (out .exit)) (r .used) (r .to)) ⌝ }
+    ensures { λ r. ⌜ ((s : IsSheet (now (sheet .entry))) → Took room (now (other .entry)) (expression (resolve (s .r)) (now (text .entry))) (now (text .entry)) (now (out .entry)) a (now (out .exit)) (r .used) (r .to)) ⌝ }
 {
     let mut i: usize = 0;
     let mut z = a;

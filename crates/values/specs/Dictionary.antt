@@ -10,7 +10,7 @@ use borrow.Author.Tests.{le-leb, lt-leb}
 use Rattle.rules.specs.Answer.{Answer, refused, accepted}
 use Rattle.rules.specs.Reader.{Reader, ret, ifR, _>>=_, _>>_, bytes, but, either, rounds, Turn, again, stop}
 use Rattle.rules.specs.Bytes.{blank, lineBlank, letter, nameByte}
-use Rattle.rules.specs.Sheet.{Value, nothing, dictionary, Records, end, encode, fieldBytes, word16Bytes, valueLength, set}
+use Rattle.rules.specs.Sheet.{Value, nothing, dictionary, Records, end, encode, fieldBytes, word16Bytes, valueLength, Lookup, resolve, set}
 use Rattle.rules.specs.Definitions.{textValue, value, grown, entryRound, dictionaryValue}
 use Rattle.rules.specs.Laws.Enough.{Moving, rounds-again, rounds-stop}
 use Rattle.rules.specs.Laws.Entries.{shrinks-dictionary, entry-moving}
@@ -28,17 +28,17 @@ use Rattle.values.specs.declared.ValueRead.{ValueRead}
 use Rattle.values.specs.Values.{Room, room-two, room-behind, lent-size, lent-first, Taken, ReadsValue, IsNone, Refused, Closes}
 
 -- What f reads from i on is what g reads from `at` on.
-reads-as : {limit : ℕ} {f g : Records → Reader (Answer Value)} {t : List ℕ} {at i : ℕ} {z w c : List ℕ} {r : ValueRead} → ((s : Records) → g s (drop at t) ≡ f s (drop i t)) → at ≤ i → ReadsValue limit f t i z w c r → ReadsValue limit g t at z w c r
+reads-as : {limit : ℕ} {f g : Lookup → Reader (Answer Value)} {t : List ℕ} {at i : ℕ} {z w c : List ℕ} {r : ValueRead} → ((look : Lookup) → g look (drop at t) ≡ f look (drop i t)) → at ≤ i → ReadsValue limit f t i z w c r → ReadsValue limit g t at z w c r
 reads-as {t = t} {c = c} {r = r} e h R = record {
   size = R .size;
   on = omega (arith, R .on);
   inside = R .inside;
   fits = R .fits;
-  goes = λ s y. subst (λ x. Taken x t c r) (sym (e (s .r))) (R .goes s y);
-  stops = λ s y. ap (λ x. x .0) (e (s .r)) ∙ R .stops s y;
+  goes = λ s y. subst (λ x. Taken x t c r) (sym (e (resolve (s .r)))) (R .goes s y);
+  stops = λ s y. ap (λ x. x .0) (e (resolve (s .r))) ∙ R .stops s y;
 }
 
-reads-none : {limit : ℕ} {g : Records → Reader (Answer Value)} {t : List ℕ} {at i : ℕ} {z w : List ℕ} {r : ValueRead} → ((s : Records) → g s (drop at t) ≡ (accepted nothing, drop i t)) → at ≤ i → i ≤ length t → IsNone i r → ReadsValue limit g t at z w w r
+reads-none : {limit : ℕ} {g : Lookup → Reader (Answer Value)} {t : List ℕ} {at i : ℕ} {z w : List ℕ} {r : ValueRead} → ((look : Lookup) → g look (drop at t) ≡ (accepted nothing, drop i t)) → at ≤ i → i ≤ length t → IsNone i r → ReadsValue limit g t at z w w r
 reads-none {t = t} {w = w} {r = r} e h k N = record {
   size = refl;
   on = omega (arith, N .place);
@@ -46,8 +46,8 @@ reads-none {t = t} {w = w} {r = r} e h k N = record {
   fits = omega (arith, N .short);
   goes = λ s y. record {
     v = nothing;
-    is = ap (λ x. x .0) (e (s .r));
-    rest = ap (λ x. x .1) (e (s .r)) ∙ ap (λ x. drop x t) (sym (N .place));
+    is = ap (λ x. x .0) (e (resolve (s .r)));
+    rest = ap (λ x. x .1) (e (resolve (s .r))) ∙ ap (λ x. drop x t) (sym (N .place));
     source = subst (λ x. IsSource nothing (r .bit) (r .count) (take x w)) (sym (N .short)) (N .source);
   };
   stops = λ s y. absurd (true≢false (sym (N .fine) ∙ y));
@@ -55,31 +55,31 @@ reads-none {t = t} {w = w} {r = r} e h k N = record {
 
 -- VALUES. The line blanks end at i.
 module _ (limit l : ℕ) {t : List ℕ} {at i : ℕ} (X : Spans lineBlank t at i) {q : Bool} (Q : Sees (byteIs 34) t i q) {z w : List ℕ} where
-  pub value-quote : {c : List ℕ} {r : ValueRead} → q ≡ true → ReadsValue limit (textValue limit) t i z w c r → ReadsValue limit (λ s. value limit s (dictionaryValue limit s l)) t at z w c r
+  pub value-quote : {c : List ℕ} {r : ValueRead} → q ≡ true → ReadsValue limit (textValue limit) t i z w c r → ReadsValue limit (λ look. value limit look (dictionaryValue limit look l)) t at z w c r
   unfolding value _>>=_ _>>_ ifR
-  value-quote e R = reads-as (λ s. rw (X .rest, sees-the "\"" Q e .says) refl) (X .on) R
+  value-quote e R = reads-as (λ look. rw (X .rest, sees-the "\"" Q e .says) refl) (X .on) R
 
   module _ (nq : q ≡ false) {d : Bool} (D : Starts (bytes "(") t i d) where
-    pub value-open : {c : List ℕ} {r : ValueRead} → d ≡ true → ReadsValue limit (λ s. dictionaryValue limit s l) t (i + 1) z w c r → ReadsValue limit (λ s. value limit s (dictionaryValue limit s l)) t at z w c r
+    pub value-open : {c : List ℕ} {r : ValueRead} → d ≡ true → ReadsValue limit (λ look. dictionaryValue limit look l) t (i + 1) z w c r → ReadsValue limit (λ look. value limit look (dictionaryValue limit look l)) t at z w c r
     unfolding value _>>=_ _>>_ ifR
-    value-open e R = reads-as (λ s. rw (X .rest, sees-the "\"" Q nq .says, mark-yes D e) refl) (omega (arith, X .on)) R
+    value-open e R = reads-as (λ look. rw (X .rest, sees-the "\"" Q nq .says, mark-yes D e) refl) (omega (arith, X .on)) R
 
     module _ (nd : d ≡ false) {n : Bool} (N : Starts (bytes "none") t i n) where
-      pub value-none : {r : ValueRead} → n ≡ true → IsNone (i + 4) r → ReadsValue limit (λ s. value limit s (dictionaryValue limit s l)) t at z w w r
+      pub value-none : {r : ValueRead} → n ≡ true → IsNone (i + 4) r → ReadsValue limit (λ look. value limit look (dictionaryValue limit look l)) t at z w w r
       unfolding value _>>=_ _>>_ ifR ret
-      value-none e R = reads-none (λ s. rw (X .rest, sees-the "\"" Q nq .says, mark-no D nd, mark-yes N e) refl) (omega (arith, X .on)) (N .there e) R
+      value-none e R = reads-none (λ look. rw (X .rest, sees-the "\"" Q nq .says, mark-no D nd, mark-yes N e) refl) (omega (arith, X .on)) (N .there e) R
 
       module _ (nn : n ≡ false) {a : Bool} (A : Sees (either "_" letter) t i a) where
-        pub value-name : {c : List ℕ} {r : ValueRead} → a ≡ true → ReadsValue limit (textValue limit) t i z w c r → ReadsValue limit (λ s. value limit s (dictionaryValue limit s l)) t at z w c r
+        pub value-name : {c : List ℕ} {r : ValueRead} → a ≡ true → ReadsValue limit (textValue limit) t i z w c r → ReadsValue limit (λ look. value limit look (dictionaryValue limit look l)) t at z w c r
         unfolding value _>>=_ _>>_ ifR
-        value-name e R = reads-as (λ s. rw (X .rest, sees-the "\"" Q nq .says, mark-no D nd, mark-no N nn, A .says, e) refl) (X .on) R
+        value-name e R = reads-as (λ look. rw (X .rest, sees-the "\"" Q nq .says, mark-no D nd, mark-no N nn, A .says, e) refl) (X .on) R
 
-        pub value-other : {r : ValueRead} {e : ℕ} → a ≡ false → Spans (notByte 10) t i e → IsNone e r → ReadsValue limit (λ s. value limit s (dictionaryValue limit s l)) t at z w w r
+        pub value-other : {r : ValueRead} {e : ℕ} → a ≡ false → Spans (notByte 10) t i e → IsNone e r → ReadsValue limit (λ look. value limit look (dictionaryValue limit look l)) t at z w w r
         unfolding value _>>=_ _>>_ ifR ret
-        value-other g S R = reads-none (λ s. rw (X .rest, sees-the "\"" Q nq .says, mark-no D nd, mark-no N nn, A .says, g, spans-but "\n" S .rest) refl) (omega (arith, X .on, S .on)) (S .inside) R
+        value-other g S R = reads-none (λ look. rw (X .rest, sees-the "\"" Q nq .says, mark-no D nd, mark-no N nn, A .says, g, spans-but "\n" S .rest) refl) (omega (arith, X .on, S .on)) (S .inside) R
 
 -- DICTIONARIES. No level is left.
-pub dictionary-seven : {limit l : ℕ} {t : List ℕ} {at : ℕ} {z w : List ℕ} {r : ValueRead} → l ≡ 0 → at ≤ length t → Refused 7 at r → ReadsValue limit (λ s. dictionaryValue limit s l) t at z w w r
+pub dictionary-seven : {limit l : ℕ} {t : List ℕ} {at : ℕ} {z w : List ℕ} {r : ValueRead} → l ≡ 0 → at ≤ length t → Refused 7 at r → ReadsValue limit (λ look. dictionaryValue limit look l) t at z w w r
 unfolding dictionaryValue ret
 dictionary-seven {limit} {l} {t} {at} e h R = record {
   size = refl;
@@ -87,7 +87,7 @@ dictionary-seven {limit} {l} {t} {at} e h R = record {
   inside = omega (arith, R .place);
   fits = omega (arith, R .short);
   goes = λ s y. absurd (true≢false (sym y ∙ R .no));
-  stops = λ s y. ap (λ x. dictionaryValue limit (s .r) x (drop at t) .0) e ∙ ap refused (sym (R .says));
+  stops = λ s y. ap (λ x. dictionaryValue limit (resolve (s .r)) x (drop at t) .0) e ∙ ap refused (sym (R .says));
 }
 
 -- How long a dictionary's value is.
@@ -98,29 +98,29 @@ dictionary-length d = omega (arith, length-append (encode d) [])
 set-some : (d : Records) (k : List ℕ) (v : Value) → 0 < length (encode (set d k v))
 set-some d k v = omega (arith, set-size d k v, one-some k v)
 
-module _ (L : ℕ) (s d : Records) (k : List ℕ) (v : Value) where
-  grown-over : L - 3 < length (encode (set d k v)) → grown L s d k (accepted v) ≡ stop (refused 9)
+module _ (L : ℕ) (look : Lookup) (d : Records) (k : List ℕ) (v : Value) where
+  grown-over : L - 3 < length (encode (set d k v)) → grown L look d k (accepted v) ≡ stop (refused 9)
   unfolding grown
   grown-over h = rw (lt-leb (valueLength (dictionary (set d k v))) L (omega (arith, dictionary-length (set d k v), set-some d k v)), grown) refl
 
-  grown-fits : length (encode (set d k v)) ≤ L - 3 → grown L s d k (accepted v) ≡ again (set d k v)
+  grown-fits : length (encode (set d k v)) ≤ L - 3 → grown L look d k (accepted v) ≡ again (set d k v)
   unfolding grown
   grown-fits h = rw (le-leb (valueLength (dictionary (set d k v))) L (omega (arith, dictionary-length (set d k v), set-some d k v)), grown) refl
 
 -- The records d stand in the first n bytes of c, in order, one of them at `last`, and the text up to i is read.
-pub record Growing (limit l : ℕ) (s : Records) (t : List ℕ) (at : ℕ) (c : List ℕ) (i n last : ℕ) : Type 0 where
+pub record Growing (limit l : ℕ) (look : Lookup) (t : List ℕ) (at : ℕ) (c : List ℕ) (i n last : ℕ) : Type 0 where
   pub d : Records
   pub bytes : take n c ≡ encode d
   pub order : ascending d ≡ true
   pub between : Between d last
-  pub left : dictionaryValue limit s l (drop at t) ≡ rounds (entryRound limit s (dictionaryValue limit s (l - 1))) (λ d. accepted (dictionary d)) d (drop i t)
+  pub left : dictionaryValue limit look l (drop at t) ≡ rounds (entryRound limit look (dictionaryValue limit look (l - 1))) (λ d. accepted (dictionary d)) d (drop i t)
 
 pub record Entering (limit l : ℕ) (t : List ℕ) (at : ℕ) (z w c : List ℕ) (i n last : ℕ) : Type 0 where
   pub inside : i ≤ length t
   pub on : at ≤ i
   pub size : length c ≡ length w
   pub short : n ≤ limit - 3
-  pub growing : (s : IsSheet z) → Growing limit l (s .r) t at c i n last
+  pub growing : (s : IsSheet z) → Growing limit l (resolve (s .r)) t at c i n last
 
 -- The slot, and what lies behind it.
 module _ {limit l : ℕ} {t : List ℕ} {at : ℕ} {z w c : List ℕ} {i n last : ℕ} (h : Room w limit l) (k : l ≡ 0 → ⊥) (E : Entering limit l t at z w c i n last) where
@@ -130,17 +130,17 @@ module _ {limit l : ℕ} {t : List ℕ} {at : ℕ} {z w c : List ℕ} {i n last 
   pub entering-behind : Room (take (length c - limit) (drop limit c)) limit (l - 1)
   entering-behind = room-behind c h k (E .size)
 
-dictionary-rounds : (limit l : ℕ) (s : Records) (u : List ℕ) → (l ≡ 0 → ⊥) → dictionaryValue limit s l u ≡ rounds (entryRound limit s (dictionaryValue limit s (l - 1))) (λ d. accepted (dictionary d)) end u
+dictionary-rounds : (limit l : ℕ) (look : Lookup) (u : List ℕ) → (l ≡ 0 → ⊥) → dictionaryValue limit look l u ≡ rounds (entryRound limit look (dictionaryValue limit look (l - 1))) (λ d. accepted (dictionary d)) end u
 unfolding dictionaryValue
-dictionary-rounds limit zero s u h = absurd (h refl)
-dictionary-rounds limit (suc l) s u h = let e : suc l - 1 ≡ l = omega arith in rw e refl
+dictionary-rounds limit zero look u h = absurd (h refl)
+dictionary-rounds limit (suc l) look u h = let e : suc l - 1 ≡ l = omega arith in rw e refl
 
 pub entering-start : {limit l : ℕ} {t : List ℕ} {at : ℕ} {z w : List ℕ} → (l ≡ 0 → ⊥) → at ≤ length t → Entering limit l t at z w w at 0 0
 unfolding encode ascending
-entering-start {limit} {l} {t} {at} k h = record { inside = h; on = omega arith; size = refl; short = omega arith; growing = λ s. record { d = end; bytes = refl; order = refl; between = between-start end; left = dictionary-rounds limit l (s .r) (drop at t) k } }
+entering-start {limit} {l} {t} {at} k h = record { inside = h; on = omega arith; size = refl; short = omega arith; growing = λ s. record { d = end; bytes = refl; order = refl; between = between-start end; left = dictionary-rounds limit l (resolve (s .r)) (drop at t) k } }
 
 module _ (limit l : ℕ) {t : List ℕ} {at : ℕ} {z w c : List ℕ} {i n last : ℕ} (E : Entering limit l t at z w c i n last) {j : ℕ} (X : Spans (either "," blank) t i j) {m : Bool} (M : Sees (but ")") t j m) where
-  pub entering-close : {r : ValueRead} → m ≡ false → n ≤ length c → Closes t j (take n c) r → ReadsValue limit (λ s. dictionaryValue limit s l) t at z w c r
+  pub entering-close : {r : ValueRead} → m ≡ false → n ≤ length c → Closes t j (take n c) r → ReadsValue limit (λ look. dictionaryValue limit look l) t at z w c r
   unfolding entryRound _>>=_ _>>_ ifR ret
   entering-close {r} e u C = record {
     size = E .size;
@@ -149,9 +149,9 @@ module _ (limit l : ℕ) {t : List ℕ} {at : ℕ} {z w c : List ℕ} {i n last 
     fits = omega (arith, E .short, C .long, length-take-le n c u);
     goes = λ s y.
         let G = E .growing s in
-        let f = entryRound limit (s .r) (dictionaryValue limit (s .r) (l - 1)) in
+        let f = entryRound limit (resolve (s .r)) (dictionaryValue limit (resolve (s .r)) (l - 1)) in
         let a : f (G .d) (drop i t) ≡ (stop (accepted (dictionary (G .d))), drop (r .at) t) = rw (X .rest, M .says, e, C .skips .rest) refl in
-        let b = G .left ∙ rounds-stop f (λ d. accepted (dictionary d)) (entry-moving limit (s .r) (dictionaryValue limit (s .r) (l - 1)) (shrinks-dictionary limit (s .r) (l - 1))) (G .d) (accepted (dictionary (G .d))) (drop i t) (ap (λ x. x .0) a) in
+        let b = G .left ∙ rounds-stop f (λ d. accepted (dictionary d)) (entry-moving limit (resolve (s .r)) (dictionaryValue limit (resolve (s .r)) (l - 1)) (shrinks-dictionary limit (resolve (s .r)) (l - 1))) (G .d) (accepted (dictionary (G .d))) (drop i t) (ap (λ x. x .0) a) in
         record {
           v = dictionary (G .d);
           is = ap (λ x. x .0) b;
@@ -162,12 +162,12 @@ module _ (limit l : ℕ) {t : List ℕ} {at : ℕ} {z w c : List ℕ} {i n last 
   }
 
   module _ (e : m ≡ true) {k : ℕ} (K : Spans nameByte t j k) {a : ℕ} (A : Spans (either ":" blank) t k a) where
-    entry-reads : (s d : Records) (inner : Reader (Answer Value)) → entryRound limit s inner d (drop i t) ≡ (grown limit s d (part t j k) (value limit s inner (drop a t) .0), value limit s inner (drop a t) .1)
+    entry-reads : (look : Lookup) (d : Records) (inner : Reader (Answer Value)) → entryRound limit look inner d (drop i t) ≡ (grown limit look d (part t j k) (value limit look inner (drop a t) .0), value limit look inner (drop a t) .1)
     unfolding entryRound _>>=_ _>>_ ifR ret
-    entry-reads s d inner = rw (X .rest, M .says, e, K .rest, K .took, A .rest) refl
+    entry-reads look d inner = rw (X .rest, M .says, e, K .rest, K .took, A .rest) refl
 
     -- The value was read behind the slot.
-    module _ (f : limit + limit ≤ length c) {o : List ℕ} {v : ValueRead} (U : ReadsValue limit (λ s. value limit s (dictionaryValue limit s (l - 1))) t a z (take (length c - limit) (drop limit c)) o v) where
+    module _ (f : limit + limit ≤ length c) {o : List ℕ} {v : ValueRead} (U : ReadsValue limit (λ look. value limit look (dictionaryValue limit look (l - 1))) t a z (take (length c - limit) (drop limit c)) o v) where
       abbrev after : List ℕ
       after = take limit c ++ (o ++ drop (length c - limit) (drop limit c))
 
@@ -187,28 +187,28 @@ module _ (limit l : ℕ) {t : List ℕ} {at : ℕ} {z w c : List ℕ} {i n last 
           rw x (ap (take (v .len)) (drop-at (take limit c) (o ++ drop (length c - limit) (drop limit c)) limit (length-take-le limit c (omega arith))) ∙ take-append-le (v .len) o (drop (length c - limit) (drop limit c)) h)
 
       module _ (s : IsSheet z) where
-        abbrev G : Growing limit l (s .r) t at c i n last
+        abbrev G : Growing limit l (resolve (s .r)) t at c i n last
         G = E .growing s
 
         abbrev round : Records → Reader (Turn Records (Answer Value))
-        round = entryRound limit (s .r) (dictionaryValue limit (s .r) (l - 1))
+        round = entryRound limit (resolve (s .r)) (dictionaryValue limit (resolve (s .r)) (l - 1))
 
         moving : Moving round (λ d. accepted (dictionary d))
-        moving = entry-moving limit (s .r) (dictionaryValue limit (s .r) (l - 1)) (shrinks-dictionary limit (s .r) (l - 1))
+        moving = entry-moving limit (resolve (s .r)) (dictionaryValue limit (resolve (s .r)) (l - 1)) (shrinks-dictionary limit (resolve (s .r)) (l - 1))
 
-        stopped : {q : ℕ} → round (G .d) (drop i t) .0 ≡ stop (refused q) → dictionaryValue limit (s .r) l (drop at t) .0 ≡ refused q
+        stopped : {q : ℕ} → round (G .d) (drop i t) .0 ≡ stop (refused q) → dictionaryValue limit (resolve (s .r)) l (drop at t) .0 ≡ refused q
         stopped h = ap (λ x. x .0) (G .left ∙ rounds-stop round (λ d. accepted (dictionary d)) moving (G .d) (refused _) (drop i t) h)
 
-        value-stops : v .ok ≡ false → dictionaryValue limit (s .r) l (drop at t) .0 ≡ refused (v .number)
+        value-stops : v .ok ≡ false → dictionaryValue limit (resolve (s .r)) l (drop at t) .0 ≡ refused (v .number)
         unfolding grown
-        value-stops h = stopped (ap (λ x. x .0) (entry-reads (s .r) (G .d) (dictionaryValue limit (s .r) (l - 1))) ∙ ap (grown limit (s .r) (G .d) (part t j k)) (U .stops s h))
+        value-stops h = stopped (ap (λ x. x .0) (entry-reads (resolve (s .r)) (G .d) (dictionaryValue limit (resolve (s .r)) (l - 1))) ∙ ap (grown limit (resolve (s .r)) (G .d) (part t j k)) (U .stops s h))
 
         module _ (h : v .ok ≡ true) where
-          abbrev T : Taken (value limit (s .r) (dictionaryValue limit (s .r) (l - 1)) (drop a t)) t o v
+          abbrev T : Taken (value limit (resolve (s .r)) (dictionaryValue limit (resolve (s .r)) (l - 1)) (drop a t)) t o v
           T = U .goes s h
 
-          turned : round (G .d) (drop i t) ≡ (grown limit (s .r) (G .d) (part t j k) (accepted (T .v)), drop (v .at) t)
-          turned = entry-reads (s .r) (G .d) (dictionaryValue limit (s .r) (l - 1)) ∙ λ y. (grown limit (s .r) (G .d) (part t j k) (T .is y), T .rest y)
+          turned : round (G .d) (drop i t) ≡ (grown limit (resolve (s .r)) (G .d) (part t j k) (accepted (T .v)), drop (v .at) t)
+          turned = entry-reads (resolve (s .r)) (G .d) (dictionaryValue limit (resolve (s .r)) (l - 1)) ∙ λ y. (grown limit (resolve (s .r)) (G .d) (part t j k) (T .is y), T .rest y)
 
           pub own-source : IsSource (T .v) (v .bit) (v .count) (part after limit (limit + v .len))
           own-source = subst (IsSource (T .v) (v .bit) (v .count)) (sym (after-own (omega (arith, U .fits, rest-long)))) (T .source)
@@ -234,7 +234,7 @@ module _ (limit l : ℕ) {t : List ℕ} {at : ℕ} {z w c : List ℕ} {i n last 
       pub entry-source : (s : IsSheet z) → v .ok ≡ true → HasSource (v .bit) (v .count) (part after limit (limit + v .len))
       entry-source s h = record { v = T s h .v; is = own-source s h }
 
-      pub entering-no : {r : ValueRead} → v .ok ≡ false → Refused (v .number) (v .at) r → ReadsValue limit (λ s. dictionaryValue limit s l) t at z w after r
+      pub entering-no : {r : ValueRead} → v .ok ≡ false → Refused (v .number) (v .at) r → ReadsValue limit (λ look. dictionaryValue limit look l) t at z w after r
       entering-no h R = record {
         size = after-size ∙ E .size;
         on = omega (arith, R .place, E .on, X .on, K .on, A .on, U .on);
@@ -255,7 +255,7 @@ module _ (limit l : ℕ) {t : List ℕ} {at : ℕ} {z w c : List ℕ} {i n last 
         pub bound-size : length b ≡ length w
         bound-size = binds-at s₀ .long ∙ after-size ∙ E .size
 
-        pub entering-over : {r : ValueRead} → q .bound ≡ Over → Refused 9 (v .at) r → ReadsValue limit (λ s. dictionaryValue limit s l) t at z w b r
+        pub entering-over : {r : ValueRead} → q .bound ≡ Over → Refused 9 (v .at) r → ReadsValue limit (λ look. dictionaryValue limit look l) t at z w b r
         unfolding Leaves
         entering-over g R = record {
           size = bound-size;
@@ -263,7 +263,7 @@ module _ (limit l : ℕ) {t : List ℕ} {at : ℕ} {z w c : List ℕ} {i n last 
           inside = omega (arith, R .place, U .inside);
           fits = omega (arith, R .short);
           goes = λ s y. absurd (true≢false (sym y ∙ R .no));
-          stops = λ s y. stopped s (ap (λ x. x .0) (turned s h) ∙ grown-over limit (s .r) (G s .d) (part t j k) (T s h .v) (rw g at (leaves s))) ∙ ap refused (sym (R .says));
+          stops = λ s y. stopped s (ap (λ x. x .0) (turned s h) ∙ grown-over limit (resolve (s .r)) (G s .d) (part t j k) (T s h .v) (rw g at (leaves s))) ∙ ap refused (sym (R .says));
         }
 
         module _ {p : ℕ} (g : q .bound ≡ Length p) where
@@ -272,7 +272,7 @@ module _ (limit l : ℕ) {t : List ℕ} {at : ℕ} {z w c : List ℕ} {i n last 
           fitted s = rw g at (leaves s)
 
           goes-on : (s : IsSheet z) → round s (G s .d) (drop i t) .0 ≡ again (set (G s .d) (part t j k) (T s h .v))
-          goes-on s = ap (λ x. x .0) (turned s h) ∙ grown-fits limit (s .r) (G s .d) (part t j k) (T s h .v) (omega (arith, fitted s .0, fitted s .1))
+          goes-on s = ap (λ x. x .0) (turned s h) ∙ grown-fits limit (resolve (s .r)) (G s .d) (part t j k) (T s h .v) (omega (arith, fitted s .0, fitted s .1))
 
           pub entering-on : Entering limit l t at z w b (v .at) p (q .at)
           entering-on = record {

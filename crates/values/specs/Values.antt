@@ -12,7 +12,7 @@ use lib.Seq.{sets, drop-drop, length-take-le, take-append-le, take-take}
 use borrow.Author.Tests.{le-leb, lt-leb, ltb-true, ltb-false, eqb-true, eqb-false}
 use Rattle.rules.specs.Answer.{Answer, refused, accepted}
 use Rattle.rules.specs.Reader.{Reader, ret, _>>=_}
-use Rattle.rules.specs.Sheet.{Value, text, nothing, dictionary, Records, encode, fieldBytes, word16Bytes, valueLength, resolveString}
+use Rattle.rules.specs.Sheet.{Value, text, nothing, dictionary, Records, encode, fieldBytes, word16Bytes, valueLength, Lookup, resolve}
 use Rattle.rules.specs.Strings.{expression}
 use Rattle.rules.specs.Definitions.{measured, textValue}
 use Rattle.rules.specs.Laws.Bool.{or-elim, or-false-l, or-false-r}
@@ -42,13 +42,13 @@ pub record Taken (x : Answer Value × List ℕ) (t w : List ℕ) (r : ValueRead)
   pub source : IsSource v (r .bit) (r .count) (take (r .len) w)
 
 -- What f reads from `at` on, for the sheet z; w is the work buffer before, and c after.
-pub record ReadsValue (limit : ℕ) (f : Records → Reader (Answer Value)) (t : List ℕ) (at : ℕ) (z w c : List ℕ) (r : ValueRead) : Type 0 where
+pub record ReadsValue (limit : ℕ) (f : Lookup → Reader (Answer Value)) (t : List ℕ) (at : ℕ) (z w c : List ℕ) (r : ValueRead) : Type 0 where
   pub size : length c ≡ length w
   pub on : at ≤ r .at
   pub inside : r .at ≤ length t
   pub fits : r .len ≤ limit - 3
-  pub goes : (s : IsSheet z) → r .ok ≡ true → Taken (f (s .r) (drop at t)) t c r
-  pub stops : (s : IsSheet z) → r .ok ≡ false → f (s .r) (drop at t) .0 ≡ refused (r .number)
+  pub goes : (s : IsSheet z) → r .ok ≡ true → Taken (f (resolve (s .r)) (drop at t)) t c r
+  pub stops : (s : IsSheet z) → r .ok ≡ false → f (resolve (s .r)) (drop at t) .0 ≡ refused (r .number)
 
 -- None, read up to `at`.
 pub record IsNone (at : ℕ) (r : ValueRead) : Type 0 where
@@ -122,9 +122,9 @@ measured-yes L v h = rw (le-leb (valueLength v) L h, measured) refl
 
 -- A text of the work buffer's first bytes.
 module _ (limit : ℕ) (t : List ℕ) (at : ℕ) (w : List ℕ) {room : ℕ} (e : room ≡ limit - 3) (i : at ≤ length t) {z : List ℕ} (s₀ : IsSheet z) {l : ℕ} (h : Room w limit l) {c₀ : List ℕ} {k q : ℕ}
-    (W₀ : (s : IsSheet z) → Wrote room (expression (resolveString (s .r)) (take (length t - at) (drop at t))) (take (length t - at) (drop at t)) (take room w) 0 c₀ k q) where
-  W : (s : IsSheet z) → Wrote room (expression (resolveString (s .r)) (drop at t)) (drop at t) (take room w) 0 c₀ k q
-  W s = subst (λ x. Wrote room (expression (resolveString (s .r)) x) x (take room w) 0 c₀ k q) (tail-part t at) (W₀ s)
+    (W₀ : (s : IsSheet z) → Wrote room (expression (resolve (s .r)) (take (length t - at) (drop at t))) (take (length t - at) (drop at t)) (take room w) 0 c₀ k q) where
+  W : (s : IsSheet z) → Wrote room (expression (resolve (s .r)) (drop at t)) (drop at t) (take room w) 0 c₀ k q
+  W s = subst (λ x. Wrote room (expression (resolve (s .r)) x) x (take room w) 0 c₀ k q) (tail-part t at) (W₀ s)
 
   room-fits : room ≤ length w
   room-fits = omega (arith, slot-le limit l, h .fits)
@@ -140,13 +140,13 @@ module _ (limit : ℕ) (t : List ℕ) (at : ℕ) (w : List ℕ) {room : ℕ} (e 
 
   module _ (s : IsSheet z) where
     abbrev said : List ℕ
-    said = expression (resolveString (s .r)) (drop at t) .0
+    said = expression (resolve (s .r)) (drop at t) .0
 
-    reads : textValue limit (s .r) (drop at t) ≡ (measured limit (text said), expression (resolveString (s .r)) (drop at t) .1)
+    reads : textValue limit (resolve (s .r)) (drop at t) ≡ (measured limit (text said), expression (resolve (s .r)) (drop at t) .1)
     unfolding textValue _>>=_ ret
     reads = refl
 
-    text-rest : expression (resolveString (s .r)) (drop at t) .1 ≡ drop (at + k) t
+    text-rest : expression (resolve (s .r)) (drop at t) .1 ≡ drop (at + k) t
     text-rest = W s .rest ∙ drop-drop k at t
 
     too-long : (ltb room q || eqb limit 0) ≡ true → limit < valueLength (text said)
@@ -189,7 +189,7 @@ module _ (limit : ℕ) (t : List ℕ) (at : ℕ) (w : List ℕ) {room : ℕ} (e 
   }
 
   module _ (o : (ltb room q || eqb limit 0) ≡ false) where
-    taken : {bit size len : ℕ} (s : IsSheet z) → IsSource (text (said s)) bit size (take len (c₀ ++ drop room w)) → Taken (textValue limit (s .r) (drop at t)) t (c₀ ++ drop room w) (record { ok = true; number = 0; at = at + k; bit = bit; count = size; len = len })
+    taken : {bit size len : ℕ} (s : IsSheet z) → IsSource (text (said s)) bit size (take len (c₀ ++ drop room w)) → Taken (textValue limit (resolve (s .r)) (drop at t)) t (c₀ ++ drop room w) (record { ok = true; number = 0; at = at + k; bit = bit; count = size; len = len })
     taken s u = record { v = text (said s); is = ap (λ x. x .0) (reads s) ∙ measured-yes limit (text (said s)) (short s o); rest = ap (λ x. x .1) (reads s) ∙ text-rest s; source = u }
 
     pub text-none : q ≡ 0 → ReadsValue limit (textValue limit) t at z w (c₀ ++ drop room w) (record { ok = true; number = 0; at = at + k; bit = 0; count = 0; len = 0 })

@@ -123,7 +123,7 @@ pub fn value(
     levels: usize,
 ) -> ValueRead
     requires { ⌜ (at ≤ length (now text)) × Room (now work) limit levels × IsSheet (now sheet) ⌝ }
-    ensures { λ r. ⌜ ReadsValue limit (λ s. value limit s (dictionaryValue limit s levels)) (now (text .entry)) at (now (sheet .entry)) (now (work .entry)) (now (work .exit)) r ⌝ }
+    ensures { λ r. ⌜ ReadsValue limit (λ look. value limit look (dictionaryValue limit look levels)) (now (text .entry)) at (now (sheet .entry)) (now (work .entry)) (now (work .exit)) r ⌝ }
 {
     let i = scan::span(text, at, Set::LineBlank);
     if scan::at(text, i, b'"') {
@@ -152,7 +152,7 @@ fn dictionary(
     levels: usize,
 ) -> ValueRead
     requires { ⌜ (at ≤ length (now text)) × Room (now work) limit levels × IsSheet (now sheet) ⌝ }
-    ensures { λ r. ⌜ ReadsValue limit (λ s. dictionaryValue limit s levels) (now (text .entry)) at (now (sheet .entry)) (now (work .entry)) (now (work .exit)) r ⌝ }
+    ensures { λ r. ⌜ ReadsValue limit (λ look. dictionaryValue limit look levels) (now (text .entry)) at (now (sheet .entry)) (now (work .entry)) (now (work .exit)) r ⌝ }
 {
     if levels == 0 {
         return no_value(7, at);

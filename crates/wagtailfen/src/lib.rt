@@ -2,20 +2,13 @@
 // returned by value.
 ghost use mathlib.Core.Path.{_≡_};
 ghost use lib.ListN.{length};
-ghost use Rattle.rules.specs.Calls.{resolveOf, resolveStringOf, resolveIncludesOf, preprocessTypstOf, findFileOf, parseDefinitionsOf, passOf};
+ghost use Rattle.rules.specs.Calls.{resolveOf, resolveIncludesOf, preprocessTypstOf, findFileOf, parseDefinitionsOf, passOf};
 
 #[no_mangle]
-pub extern "C" fn wf_resolve(sheet: &[u8], path: &[u8]) -> builder::Resolved
-    ensures { λ r. ⌜ resolveOf (now (sheet .entry)) (now (path .entry)) ≡ record { number = r .number; kind = r .kind } ⌝ }
+pub extern "C" fn wf_resolve(sheet: &[u8], path: &[u8], out: &mut [u8]) -> builder::Resolved
+    ensures { λ r. ⌜ resolveOf (now (sheet .entry)) (now (path .entry)) (length (now (out .entry))) ≡ record { number = r .number; kind = r .kind; len = r .len; out = now (out .exit) } ⌝ }
 {
-    builder::resolve(sheet, path)
-}
-
-#[no_mangle]
-pub extern "C" fn wf_resolve_string(sheet: &[u8], path: &[u8], out: &mut [u8]) -> builder::Text
-    ensures { λ r. ⌜ resolveStringOf (now (sheet .entry)) (now (path .entry)) (length (now (out .entry))) ≡ record { number = r .number; len = r .len; out = now (out .exit) } ⌝ }
-{
-    builder::resolve_string(sheet, path, out)
+    builder::resolve(sheet, path, out)
 }
 
 #[no_mangle]

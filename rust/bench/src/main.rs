@@ -8,11 +8,12 @@ mod includes;
 mod pass;
 mod timing;
 
+use oracle::lookup::KINDS;
 use oracle::{Context, Files, Tree, Value, bundle, sheet};
 use std::env;
 use std::hint::black_box;
 use timing::times;
-use wagtailfen::{find_file, resolve, resolve_string};
+use wagtailfen::{DICTIONARY, MISSING, NONE, TEXT, find_file, resolve};
 
 const SIZES: [usize; 3] = [1, 100, 1500];
 
@@ -21,8 +22,9 @@ Nanoseconds a call: the least of 100 repetitions of a millisecond or more, in wh
 here    the call, which checks the layout of the sheet or bundle each time
 check   that check: the call with a path that is refused right behind it
 rest    here less check
-Rust    the reference's call of that name. Its hash maps are built once, outside of the timed loop, and it checks nothing
-The output here is one lent buffer of 64 bytes, cleared by the call alone; the Rust answers a new String.";
+Rust    for a text the reference's `resolve_string`, which answers a new String; for another kind its `resolve`. Its hash maps are
+        built once, outside of the timed loop, and it checks nothing
+The output here is one lent buffer of 64 bytes, cleared by the call alone.";
 
 const TABLES: [(&str, fn()); 6] = [
     ("lookups", lookup_table),
@@ -45,7 +47,7 @@ fn main() {
 
 fn lookup_table() {
     println!("{NOTES}\n");
-    println!("bindings   bytes  call            path       here     check      rest      Rust     ratio");
+    println!("bindings   bytes  kind        path       here     check      rest      Rust     ratio");
     SIZES.into_iter().for_each(lookups);
 }
 
@@ -66,60 +68,53 @@ fn place(i: usize) -> String {
     format!("limit_{i:04}")
 }
 
+/// Texts at each place, and at the last one each other kind.
 fn lookups(count: usize) {
-    let tree = bindings(count);
-    let sheet = sheet::encode(&tree).expect("a sheet");
-    let context = Context::new(&tree).expect("a context");
+    let mut tree = bindings(count);
     let mut paths = vec![("first", place(0)), ("middle", place(count / 2)), ("last", place(count - 1))];
     paths.dedup_by(|a, b| a.1 == b.1);
-    paths.push(("missing", "lost".into()));
     for (name, path) in &paths {
-        kind_row(&sheet, &context, name, path);
+        lookup_row(&tree, TEXT, name, path);
     }
-    for (name, path) in &paths {
-        text_row(&sheet, &context, name, path);
+    lookup_row(&tree, MISSING, "lost", "lost");
+    for (kind, value) in [(NONE, Value::None), (DICTIONARY, Value::Dictionary(bindings(1)))] {
+        tree.insert(place(count - 1).into_bytes(), value);
+        lookup_row(&tree, kind, "last", &place(count - 1));
     }
 }
 
 /// A path that is refused behind the check of the sheet.
 const REFUSED: &[u8] = b"\x80";
 
-fn kind_row(sheet: &[u8], context: &Context, name: &str, path: &str) {
-    let here = resolve(sheet, path.as_bytes());
-    assert_eq!((here.number, here.kind), (0, context.resolve(path)));
-    assert_eq!(resolve(sheet, REFUSED).number, 6);
-    let ours = |path: &[u8]| {
-        black_box(resolve(black_box(sheet), black_box(path)));
-    };
-    let rust = || {
-        black_box(context.resolve(black_box(path)));
-    };
-    lookup_row(sheet, "resolve", name, times([&mut || ours(path.as_bytes()), &mut || ours(REFUSED), &mut { rust }]));
-}
-
-fn text_row(sheet: &[u8], context: &Context, name: &str, path: &str) {
+fn lookup_row(tree: &Tree, kind: u8, name: &str, path: &str) {
+    let sheet = sheet::encode(tree).expect("a sheet");
+    let context = Context::new(tree).expect("a context");
     let mut out = [0; 64];
-    let here = resolve_string(sheet, path.as_bytes(), &mut out);
-    assert_eq!((here.number, &out[..here.len]), (0, context.resolve_string(path).as_bytes()));
-    assert_eq!(resolve_string(sheet, REFUSED, &mut out).number, 6);
+    let here = resolve(&sheet, path.as_bytes(), &mut out);
+    let wanted = context.looked(path);
+    assert_eq!((here.number, here.kind, &out[..here.len]), (0, kind, &wanted.text[..]));
+    assert_eq!(kind, wanted.kind);
+    assert_eq!(resolve(&sheet, REFUSED, &mut out).number, 6);
     let mut other = [0; 64];
     let ours = |path: &[u8], out: &mut [u8]| {
-        black_box(resolve_string(black_box(sheet), black_box(path), black_box(out)));
+        black_box(resolve(black_box(&sheet), black_box(path), black_box(out)));
     };
     let rust = || {
-        black_box(context.resolve_string(black_box(path)));
+        if kind == TEXT {
+            black_box(context.resolve_string(black_box(path)));
+        } else {
+            black_box(context.resolve(black_box(path)));
+        }
     };
-    let all = times([&mut || ours(path.as_bytes(), &mut out), &mut || ours(REFUSED, &mut other), &mut { rust }]);
-    lookup_row(sheet, "resolve_string", name, all);
-}
-
-fn lookup_row(sheet: &[u8], call: &str, name: &str, [here, check, rust]: [f64; 3]) {
-    let count = sheet::decode(sheet).expect("a sheet").len();
-    let rest = here - check;
-    let ratio = here / rust;
+    let [here, check, rust] =
+        times([&mut || ours(path.as_bytes(), &mut out), &mut || ours(REFUSED, &mut other), &mut { rust }]);
     println!(
-        "{count:8} {:7}  {call:14}  {name:7} {here:9.1} {check:9.1} {rest:9.1} {rust:9.1} {ratio:9.2}",
-        sheet.len()
+        "{:8} {:7}  {:10}  {name:7} {here:9.1} {check:9.1} {:9.1} {rust:9.1} {:9.2}",
+        tree.len(),
+        sheet.len(),
+        KINDS[usize::from(kind)],
+        here - check,
+        here / rust
     );
 }
 

@@ -1,12 +1,13 @@
 //! The Rust reference, as it is, behind plain functions. `build.rs` takes its functions unchanged out of its sources.
 //!
-//! - `resolve`, `resolve_string`, or a `Context` that is built once for many lookups: in this process.
+//! - `Context`: the bindings of a sheet, built once for many lookups: in this process.
 //! - `resolve_includes`, `preprocess_typst`, `parse_definitions`: in this process, the files unpacked into a fresh folder.
 //!   They can hang, or overflow the stack: `child` runs them in a process of their own, with a time limit.
 //! - `resolve_includes_below`: the same with files that were unpacked before, for many texts.
 //! - `preprocess_typst_below`, `parse_definitions_below`: likewise.
-//! - `includes`, `expansion` and `definitions`: what 01 adds to `resolve_includes`, `preprocess_typst` and `parse_definitions`: which
-//!   calls are accepted, and the numbers of the others. `pass`: both of the first two in a pass, and whether a text is closed.
+//! - `lookup`, `includes`, `expansion` and `definitions`: what 01 adds to the lookups, `resolve_includes`, `preprocess_typst` and
+//!   `parse_definitions`: which calls are accepted, and the numbers of the others. `pass`: includes and expansion in a pass, and whether a
+//!   text is closed.
 //! - `sheet` and `bundle`: bytes to trees and files, and back. `bundle::find` finds by path.
 //! - `layout`: the rules of 01 for bytes.
 
@@ -17,6 +18,7 @@ pub mod definitions;
 pub mod expansion;
 pub mod includes;
 pub mod layout;
+pub mod lookup;
 pub mod pass;
 mod reader;
 mod reference;
@@ -26,16 +28,6 @@ mod text;
 pub use bundle::{Files, Found, Unpacked};
 pub use reference::Context;
 pub use sheet::{Tree, Value};
-
-/// The kind of what a path names in a sheet: 0 missing, 1 none, 2 text, 3 dictionary. None where the sheet cannot be read.
-pub fn resolve(sheet: &[u8], path: &str) -> Option<u8> {
-    Some(context(sheet)?.resolve(path))
-}
-
-/// The text that a path names in a sheet. None where the sheet cannot be read.
-pub fn resolve_string(sheet: &[u8], path: &str) -> Option<String> {
-    Some(context(sheet)?.resolve_string(path))
-}
 
 /// The bindings of a sheet. None where it cannot be read.
 pub fn context(sheet: &[u8]) -> Option<Context> {
@@ -89,6 +81,7 @@ fn unpacked(files: &Files) -> Result<Unpacked, String> {
 #[cfg(test)]
 mod tests {
     use super::*;
+    use lookup::Looked;
 
     const X: &[u8] = b"\x03\x01\0x\x02\x0010";
 
@@ -103,14 +96,12 @@ mod tests {
 
     #[test]
     fn lookups() {
-        let sheet = b"\x05\x01\0d\x02\0\x08\x03\x01\0k\x01\0v\x03\x01\0x\x02\x0010";
-        let kinds = [("x", 2), ("d", 3), ("d.", 1), ("d.k", 2), ("d.n", 0), ("x.y", 0), ("", 0), ("n", 0)];
-        for (path, kind) in kinds {
-            assert_eq!(resolve(sheet, path), Some(kind), "{path}");
+        let sheet = context(b"\x05\x01\0d\x02\0\x08\x03\x01\0k\x01\0v\x01\x01\0e\x03\x01\0x\x02\x0010").unwrap();
+        let all = [("x", 2, "10"), ("d", 3, ""), ("d.", 1, ""), ("d.k", 2, "v"), ("d.n", 0, ""), ("e", 2, "")];
+        for (path, kind, text) in all.into_iter().chain([("x.y", 0, ""), ("", 0, ""), ("n", 0, "")]) {
+            assert_eq!(sheet.looked(path), Looked { kind, text: text.into() }, "{path}");
         }
-        assert_eq!(resolve_string(sheet, "d.k").unwrap(), "v");
-        assert_eq!(resolve_string(sheet, "d").unwrap(), "");
-        assert_eq!(resolve(b"\x03", "x"), None);
+        assert!(context(b"\x03").is_none());
     }
 
     // Lines of 01, section 10.

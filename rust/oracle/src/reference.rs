@@ -1,4 +1,5 @@
 //! The reference itself, and the few steps from it to plain values.
+use crate::lookup::Looked;
 use crate::sheet::{Tree, Value};
 use std::cell::RefCell;
 use std::collections::HashMap;
@@ -38,6 +39,11 @@ impl Context {
     /// `EvalContext::resolve_string`.
     pub fn resolve_string(&self, path: &str) -> String {
         self.0.resolve_string(path)
+    }
+
+    /// Both for one path: the reference has no one call for it.
+    pub fn looked(&self, path: &str) -> Looked {
+        Looked { kind: self.resolve(path), text: self.resolve_string(path).into_bytes() }
     }
 
     /// The bindings as a tree.

@@ -1,14 +1,24 @@
-//! The lines with given answers: a JSON object each. Taken are the include calls; for the expansion call the passes over texts that include
-//! nothing; the definitions calls; and the passes. The given answer is written, and must be the one that the oracle has.
+//! The lines with given answers. For 01 a JSON object each: taken are the include calls; for the expansion call the passes over texts that
+//! include nothing; the definitions calls; and the passes. For 02 `REQUEST | WHAT -> ANSWER`: taken are the lookups, request E1. The given
+//! answer is written, and must be the one that the oracle has.
 use crate::record::Record;
-use crate::{definitions, expansion, includes, pass};
+use crate::{definitions, expansion, includes, lookups, pass};
 use oracle::definitions::work_needed;
+use oracle::lookup::{KINDS, Looked};
 use oracle::pass::Rooms;
+use oracle::{Tree, Value, sheet};
 use std::{fs, io};
 
 /// Where a line gives no length of the buffer: so many bytes more than the text; for a refused call so many.
 const MORE: usize = 5;
 const ENOUGH: usize = 64;
+
+pub fn lookups(path: &str) -> io::Result<Vec<Record>> {
+    let lines = fs::read_to_string(path)?;
+    let lookups: Vec<Record> = lines.lines().filter_map(|line| line.strip_prefix("E1 | ")).map(lookup_case).collect();
+    assert!(!lookups.is_empty(), "{path}: no line of E1");
+    Ok(lookups)
+}
 
 pub fn includes(path: &str) -> io::Result<Vec<Record>> {
     let lines = fs::read_to_string(path)?;
@@ -30,6 +40,47 @@ pub fn definitions(path: &str) -> io::Result<Vec<Record>> {
 pub fn passes(path: &str) -> io::Result<Vec<Record>> {
     let lines = fs::read_to_string(path)?;
     Ok(lines.lines().filter(|line| value(line, "fn") == "pass").map(pass_case).collect())
+}
+
+/// `b'PATH' -> ('KIND', b'TEXT')`, or a case in words with its number. The sheet is told by the answers: d.a is the text A, n is none, x is empty.
+fn lookup_case(line: &str) -> Record {
+    let (what, given) = line.trim_end().split_once(" -> ").expect("an answer");
+    let text = |t: &str| Value::Text(t.into());
+    let inner = Tree::from([(b"a".to_vec(), text("A"))]);
+    let mut tree = Tree::from([
+        (b"d".to_vec(), Value::Dictionary(inner)),
+        (b"n".to_vec(), Value::None),
+        (b"x".to_vec(), text("")),
+    ]);
+    let (path, room): (&[u8], usize) = match what {
+        "text of 3 into 2 bytes" => {
+            tree.insert(b"x".to_vec(), text("abc"));
+            (b"x", 2)
+        }
+        "dictionary into 0 bytes" => (b"d", 0),
+        "broken sheet and broken text" => {
+            tree.insert(b"\x80".to_vec(), text(""));
+            (b"\x80", MORE)
+        }
+        path => (quoted(path).as_bytes(), MORE),
+    };
+    let case = lookups::Case { sheet: sheet::encode(&tree).expect("a sheet"), path: path.to_vec(), room };
+    let wanted = lookups::wanted(&case);
+    match given.strip_prefix("('").and_then(|rest| rest.strip_suffix(')')?.split_once("', ")) {
+        Some((kind, text)) => {
+            let kind = KINDS.iter().position(|k| *k == kind).expect("a kind") as u8;
+            assert_eq!(wanted, Ok(Looked { kind, text: quoted(text).into() }), "{line}");
+        }
+        None => assert_eq!(wanted.as_ref().err().copied().unwrap_or(0).to_string(), given, "{line}"),
+    }
+    lookups::record(&case, &wanted)
+}
+
+/// What stands between `b'` and `'`, where nothing is escaped.
+fn quoted(bytes: &str) -> &str {
+    let inner = bytes.strip_prefix("b'").and_then(|rest| rest.strip_suffix('\'')).unwrap_or_else(|| panic!("{bytes}"));
+    assert!(!inner.contains('\\'), "{bytes}");
+    inner
 }
 
 fn definitions_case(line: &str) -> Option<Record> {

@@ -1,7 +1,6 @@
 //! The form of a case: a byte that says which call it is, then fields, each a 16-bit length (low byte first) and its bytes.
 
-/// Fields: sheet, path, answer. The answer: number and kind of `resolve`, number of `resolve_string`, the length of its
-/// buffer in 16 bits, its text.
+/// Fields: sheet, path, answer, kind. The answer is as that of `INCLUDE`; kind is one byte.
 pub const LOOKUP: u8 = 0;
 /// Fields: bundle, folder, text, answer. The answer: number, the length of the buffer in 16 bits, the text.
 pub const INCLUDE: u8 = 1;

@@ -10,10 +10,12 @@ pub mod raw;
 #[repr(C)]
 #[derive(Clone, Copy, Debug, PartialEq, Eq)]
 pub struct Resolved {
-    /// 0 accepted; 3 sheet breaks its layout; 6 byte from 128 in the path.
+    /// 0 accepted; 3 sheet breaks its layout; 6 byte from 128 in the path; 11 text longer than the output.
     pub number: u8,
     /// `MISSING`, `NONE`, `TEXT` or `DICTIONARY`.
     pub kind: u8,
+    /// How many bytes of the output a text takes, 0 for another kind. Those behind it are 0.
+    pub len: usize,
 }
 
 pub const MISSING: u8 = 0;
@@ -25,7 +27,7 @@ pub const DICTIONARY: u8 = 3;
 #[repr(C)]
 #[derive(Clone, Copy, Debug, PartialEq, Eq)]
 pub struct Text {
-    /// 0 accepted; of `resolve_string` 3, 6, 11; of `resolve_includes` 2, 4, 5, 6, 7, 11.
+    /// 0 accepted; 2, 4, 5, 6, 7, 11.
     pub number: u8,
     /// How many bytes of the output it takes. Those behind it are 0.
     pub len: usize,
@@ -85,18 +87,12 @@ pub const ABSENT: u8 = 0;
 pub const FOLDER: u8 = 1;
 pub const FILE: u8 = 2;
 
-/// The kind of what `path` names in `sheet`. The path is split at every `.`: a binding, then keys of dictionaries.
-pub fn resolve(sheet: &[u8], path: &[u8]) -> Resolved {
-    // SAFETY: both slices can be read for their lengths, and their pointers are not null.
-    unsafe { raw::wf_resolve(sheet.as_ptr(), sheet.len(), path.as_ptr(), path.len()) }
-}
-
-/// Writes the text that `path` names in `sheet` to the start of `out`, and 0 behind it. The text is empty unless the kind is `TEXT`.
-pub fn resolve_string(sheet: &[u8], path: &[u8], out: &mut [u8]) -> Text {
-    // SAFETY: as above; `out` can be written for its length and overlaps neither.
-    unsafe {
-        raw::wf_resolve_string(sheet.as_ptr(), sheet.len(), path.as_ptr(), path.len(), out.as_mut_ptr(), out.len())
-    }
+/// What `path` names in `sheet`: its kind, and a text's bytes at the start of `out`, and 0 behind them; all of `out` is 0 for another kind.
+/// The path is split at every `.`: a binding, then keys of dictionaries.
+pub fn resolve(sheet: &[u8], path: &[u8], out: &mut [u8]) -> Resolved {
+    // SAFETY: all slices can be read for their lengths, and their pointers are not null; `out` can be written for its length and
+    // overlaps neither of the others.
+    unsafe { raw::wf_resolve(sheet.as_ptr(), sheet.len(), path.as_ptr(), path.len(), out.as_mut_ptr(), out.len()) }
 }
 
 /// What `path` is in `bundle`.
@@ -229,24 +225,27 @@ mod tests {
     const SHEET: &[u8] = b"\x05\x01\0d\x01\0\x08\x03\x01\0x\x02\x0010";
 
     #[test]
-    fn kinds() {
-        for (path, kind) in [("x", TEXT), ("d", DICTIONARY), ("d.", NONE), ("y", MISSING), ("x.y", MISSING)] {
-            assert_eq!(resolve(SHEET, path.as_bytes()), Resolved { number: 0, kind }, "{path}");
-        }
-        assert_eq!(resolve(b"\x00\x00", b"x"), Resolved { number: 3, kind: 0 });
-        assert_eq!(resolve(SHEET, b"\x80"), Resolved { number: 6, kind: 0 });
-        assert_eq!(resolve(b"", b""), Resolved { number: 0, kind: MISSING });
-    }
-
-    #[test]
-    fn texts() {
+    fn lookups() {
         let mut out = [0xAA; 3];
-        assert_eq!(resolve_string(SHEET, b"x", &mut out), Text { number: 0, len: 2 });
-        assert_eq!(&out, b"10\0");
-        let mut out = [0xAA; 1];
-        assert_eq!(resolve_string(SHEET, b"x", &mut out), Text { number: 11, len: 0 });
-        assert_eq!(out, [0]);
-        assert_eq!(resolve_string(SHEET, b"d", &mut []), Text { number: 0, len: 0 });
+        let mut call = |sheet: &[u8], path: &str, n: usize| {
+            out.fill(0xAA);
+            let Resolved { number, kind, len } = resolve(sheet, path.as_bytes(), &mut out[..n]);
+            let (text, behind) = out[..n].split_at(len);
+            ((number, kind), text.to_vec(), behind.iter().all(|&c| c == 0) && out[n..].iter().all(|&c| c == 0xAA))
+        };
+        let empty = |number, kind| ((number, kind), vec![], true);
+        assert_eq!(call(SHEET, "x", 3), ((0, TEXT), b"10".to_vec(), true));
+        assert_eq!(call(SHEET, "x", 2), ((0, TEXT), b"10".to_vec(), true));
+        assert_eq!(call(SHEET, "x", 1), empty(11, MISSING));
+        for (path, kind) in [("d", DICTIONARY), ("d.", NONE), ("d.x", MISSING), ("y", MISSING), ("x.y", MISSING)] {
+            assert_eq!(call(SHEET, path, 0), empty(0, kind), "{path}");
+            assert_eq!(call(SHEET, path, 3), empty(0, kind), "{path}");
+        }
+        // The empty text, and no such name.
+        assert_eq!(call(b"\x00", "", 0), empty(0, TEXT));
+        assert_eq!(call(b"", "", 0), empty(0, MISSING));
+        assert_eq!(call(b"\x10", "\u{80}", 3), empty(3, MISSING));
+        assert_eq!(call(SHEET, "\u{80}", 3), empty(6, MISSING));
     }
 
     #[test]
@@ -356,7 +355,7 @@ mod tests {
 
     #[test]
     fn numbers() {
-        assert_eq!(refusal(resolve(b"\x10", b"").number), "sheet breaks its layout");
+        assert_eq!(refusal(resolve(b"\x10", b"", &mut []).number), "sheet breaks its layout");
         assert_eq!(refusal(0), "accepted");
     }
 }

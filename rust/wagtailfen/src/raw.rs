@@ -16,22 +16,15 @@ unsafe extern "C" {
     ///
     /// # Safety
     ///
-    /// `sheet` and `path` are slices that are read, as the module says.
-    pub fn wf_resolve(sheet: *const u8, sheet_len: usize, path: *const u8, path_len: usize) -> Resolved;
-
-    /// `struct wf_text wf_resolve_string(..)`
-    ///
-    /// # Safety
-    ///
     /// `sheet` and `path` are slices that are read, `out` one that is written, as the module says.
-    pub fn wf_resolve_string(
+    pub fn wf_resolve(
         sheet: *const u8,
         sheet_len: usize,
         path: *const u8,
         path_len: usize,
         out: *mut u8,
         out_len: usize,
-    ) -> Text;
+    ) -> Resolved;
 
     /// `struct wf_found wf_find_file(..)`
     ///

@@ -9,7 +9,7 @@ use Rattle.rules.specs.Definitions.{listed}
 use Rattle.imported_names.specs.Names.{none-bound, later-empty, later-some, names-as}
 
 returns : tie.Need-returns
-returns c = names-as (ap listed (sym (later-empty _ (search needs)))) (none-bound (c .before .before .before .before .pre))
+returns c = names-as (ap listed (sym (later-empty _ (search needs)))) (none-bound (c .before .before .before .before .pre .1))
 
 bind-word-requires : tie.Need-bind-word-requires
 bind-word-requires c κs = search needs

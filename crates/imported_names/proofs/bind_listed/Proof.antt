@@ -6,7 +6,7 @@ use Rattle.imported_names.proofs.bind_listed.Lts as lts
 use Rattle.imported_names.proofs.bind_more.Reads as bind-more-reads
 use Rattle.imported_names.proofs.bind_word.Reads as bind-word-reads
 use Rattle.scan.proofs.span.Reads as span-reads
-use Rattle.imported_names.specs.Names.{ready-on}
+use Rattle.imported_names.specs.Names.{word-is, ready-on}
 use Rattle.imported_names.specs.Words.{words-over, words-then}
 
 span-requires : tie.Need-span-requires
@@ -22,7 +22,7 @@ part-bind-word-end : tie.Need-part-bind-word-end
 part-bind-word-end c = search needs
 
 bind-word-requires : tie.Need-bind-word-requires
-bind-word-requires c κs = search needs
+bind-word-requires c κs = (word-is (c .before .before .span .ensures), search needs)
 
 enum-known-first : tie.Need-enum-known-first
 enum-known-first c = search needs

@@ -11,6 +11,7 @@ use Prim.Native.Nat.{_-_}
 use lib.ListN.{length}
 use native.Mathlib.Omega.{arith}
 use borrow.Author.Tests.{not-true, not-false}
+use Rattle.imported_names.specs.Names.{word-is}
 use Rattle.imported_names.specs.Words.{BindingMore, more-start, more-end, more-over, more-on}
 
 abbrev Inv-loop : tie.InvT-loop
@@ -60,7 +61,7 @@ part-bind-later-end : tie.Need-part-bind-later-end Inv-loop μ-loop
 part-bind-later-end c = search needs
 
 bind-later-requires : tie.Need-bind-later-requires Inv-loop μ-loop
-bind-later-requires c κs = c .before .before .before .before .before .before .before .before .loop .inv .ready
+bind-later-requires c κs = (word-is (c .before .before .span3 .ensures), c .before .before .before .before .before .before .before .before .loop .inv .ready)
 
 enum-known-bound : tie.Need-enum-known-bound Inv-loop μ-loop
 enum-known-bound c = search needs

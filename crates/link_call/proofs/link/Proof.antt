@@ -8,7 +8,7 @@ use Rattle.link_call.proofs.put_link.Reads as put-link-reads
 use Rattle.scan.proofs.at.Reads as at-reads
 use Rattle.scan.proofs.span.Reads as span-reads
 use Rattle.string_ends.proofs.expression_end.Reads as expression-end-reads
-use mathlib.Core.List.{[]}
+use mathlib.Core.Option.{none}
 use native.Mathlib.Omega.{arith}
 use lib.ListN.{length-take, length-drop}
 use Rattle.buffers.specs.Laws.{put-length}
@@ -36,10 +36,10 @@ expression-end-requires : tie.Need-expression-end-requires
 expression-end-requires c κs = search needs
 
 add-call-end : tie.Need-add-call-end
-add-call-end c = omega (arith, simp (length-take, length-drop) at (c .expression-end .ensures (λ z. []) .inside))
+add-call-end c = omega (arith, simp (length-take, length-drop) at (c .expression-end .ensures (λ z. none) .inside))
 
 call-end-requires : tie.Need-call-end-requires
-call-end-requires c κs = omega (arith, simp (length-take, length-drop) at (c .expression-end .ensures (λ z. []) .inside))
+call-end-requires c κs = omega (arith, simp (length-take, length-drop) at (c .expression-end .ensures (λ z. none) .inside))
 
 sub-put-link : tie.Need-sub-put-link
 sub-put-link c = search needs

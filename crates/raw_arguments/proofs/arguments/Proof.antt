@@ -8,12 +8,14 @@ use Rattle.scan.proofs.sees.Reads as sees-reads
 use mathlib.Core.Path.{_≡_, refl}
 use mathlib.Core.List.{List, []}
 use mathlib.Core.Bool.{false}
+use mathlib.Core.Option.{none}
 use Prim.Native.Nat.{ℕ, _-_}
 use native.Mathlib.Omega.{arith}
 use lib.ListN.{length}
 use borrow.Author.Tests.{not-false}
 use Rattle.rules.specs.Reader.{either}
 use Rattle.rules.specs.Bytes.{blank}
+use Rattle.rules.specs.Sheet.{Lookup}
 use Rattle.scan.specs.Laws.{Spanning, spanning-start}
 use Rattle.raw_arguments.specs.Args.{ArgsAt, args-start, args-end, args-language, args-block, args-nothing, args-stalled, gap-on}
 
@@ -24,7 +26,7 @@ abbrev μ-loop : tie.MeasureT-loop
 μ-loop text at i₀ lang block stalled start i = length text - i
 
 abbrev Inv-rounds : tie.InvT-rounds
-Inv-rounds text at i₀ lang₀ block₀ stalled₀ i lang block stalled = (stalled ≡ false) × ((look : List ℕ → List ℕ) (b : List ℕ) → ArgsAt look b text at i lang block)
+Inv-rounds text at i₀ lang₀ block₀ stalled₀ i lang block stalled = (stalled ≡ false) × ((look : Lookup) (b : List ℕ) → ArgsAt look b text at i lang block)
 
 abbrev μ-rounds : tie.MeasureT-rounds
 μ-rounds text at i₀ lang₀ block₀ stalled₀ i lang block stalled = length text - i
@@ -33,7 +35,7 @@ rounds-holds : tie.Need-rounds-holds Inv-loop μ-loop Inv-rounds μ-rounds
 rounds-holds c = (refl, λ look b. args-start look b _ _ (search needs))
 
 loop-holds : tie.Need-loop-holds Inv-loop μ-loop Inv-rounds μ-rounds
-loop-holds c = spanning-start _ _ _ (c .rounds .inv .1 (λ x. x) [] .inside)
+loop-holds c = spanning-start _ _ _ (c .rounds .inv .1 (λ x. none) [] .inside)
 
 sees-requires : tie.Need-sees-requires Inv-loop μ-loop Inv-rounds μ-rounds
 sees-requires c κs = search needs
@@ -58,7 +60,7 @@ enum-known-setting c = search needs
 
 rounds-less : tie.Need-rounds-less Inv-loop μ-loop Inv-rounds μ-rounds
 rounds-less c =
-    let look : List ℕ → List ℕ = λ x. x in
+    let look : Lookup = λ x. none in
     let b : List ℕ = [] in
     let h = args-language (c .before .before .before .before .before .before .before .before .before .rounds .inv .1 look b) (c .before .before .before .before .before .before .before .before .loop .inv) (c .before .before .before .before .before .before .before .sees .ensures) (c .before .before .before .before .before .before .if1 .left) (c .before .before .before .before .before .sees2 .ensures) (c .before .before .before .before .if2 .taken) (c .before .before .before .argument .ensures look b) (c .before .setting .given .1) in
     omega (arith, h .0, h .1 .inside)
@@ -71,7 +73,7 @@ enum-known-setting-2 c = search needs
 
 rounds-less-2 : tie.Need-rounds-less-2 Inv-loop μ-loop Inv-rounds μ-rounds
 rounds-less-2 c =
-    let look : List ℕ → List ℕ = λ x. x in
+    let look : Lookup = λ x. none in
     let b : List ℕ = [] in
     let h = args-block (c .before .before .before .before .before .before .before .before .before .rounds .inv .1 look b) (c .before .before .before .before .before .before .before .before .loop .inv) (c .before .before .before .before .before .before .before .sees .ensures) (c .before .before .before .before .before .before .if1 .left) (c .before .before .before .before .before .sees2 .ensures) (c .before .before .before .before .if2 .taken) (c .before .before .before .argument .ensures look b) (c .before .setting2 .given .1) in
     omega (arith, h .0, h .1 .inside)
@@ -84,7 +86,7 @@ enum-known-setting-3 c = search needs
 
 rounds-less-3 : tie.Need-rounds-less-3 Inv-loop μ-loop Inv-rounds μ-rounds
 rounds-less-3 c =
-    let look : List ℕ → List ℕ = λ x. x in
+    let look : Lookup = λ x. none in
     let b : List ℕ = [] in
     let h = args-nothing (c .before .before .before .before .before .before .before .before .before .before .rounds .inv .1 look b) (c .before .before .before .before .before .before .before .before .before .loop .inv) (c .before .before .before .before .before .before .before .before .sees .ensures) (c .before .before .before .before .before .before .before .if1 .left) (c .before .before .before .before .before .before .sees2 .ensures) (c .before .before .before .before .before .if2 .taken) (c .before .before .before .before .argument .ensures look b) (c .before .before .setting3 .given .1) (c .if3 .left) in
     omega (arith, h .0, h .1 .inside)

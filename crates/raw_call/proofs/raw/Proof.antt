@@ -9,8 +9,8 @@ use Rattle.raw_call.proofs.put_raw.Reads as put-raw-reads
 use Rattle.scan.proofs.at.Reads as at-reads
 use Rattle.scan.proofs.skip.Reads as skip-reads
 use Rattle.scan.proofs.span.Reads as span-reads
-use mathlib.Core.List.{List, []}
-use Prim.Native.Nat.{ℕ}
+use mathlib.Core.List.{[]}
+use mathlib.Core.Option.{none}
 use Rattle.raw_call.specs.Raw.{given-holds, raw-back, raw-refused, raw-stalled, raw-output}
 
 span-requires : tie.Need-span-requires
@@ -38,10 +38,10 @@ at-requires : tie.Need-at-requires
 at-requires c κs = search needs
 
 skip-requires : tie.Need-skip-requires
-skip-requires c κs = c .before .before .arguments .ensures (λ (x : List ℕ). x) [] .inside
+skip-requires c κs = c .before .before .arguments .ensures (λ x. none) [] .inside
 
 put-raw-requires : tie.Need-put-raw-requires
-put-raw-requires c κs = (given-holds (c .before .before .before .before .before .before .content2 .given .1) (λ s. c .before .before .before .before .before .before .before .before .before .raw-content .ensures s .sized) (c .before .before .before .before .before .before .before .before .before .before .before .before .before .before .before .pre .4), c .before .before .before .before .arguments .ensures (λ (x : List ℕ). x) _ .lies, c .before .before .before .before .before .before .before .before .before .before .before .before .before .before .before .pre .2, c .before .before .before .before .before .before .before .before .before .before .before .before .before .before .before .pre .3, c .before .before .before .before .before .before .before .before .before .before .before .before .before .before .before .pre .4)
+put-raw-requires c κs = (given-holds (c .before .before .before .before .before .before .content2 .given .1) (λ s. c .before .before .before .before .before .before .before .before .before .raw-content .ensures s .sized) (c .before .before .before .before .before .before .before .before .before .before .before .before .before .before .before .pre .4), c .before .before .before .before .arguments .ensures (λ x. none) _ .lies, c .before .before .before .before .before .before .before .before .before .before .before .before .before .before .before .pre .2, c .before .before .before .before .before .before .before .before .before .before .before .before .before .before .before .pre .3, c .before .before .before .before .before .before .before .before .before .before .before .before .before .before .before .pre .4)
 
 returns-2 : tie.Need-returns-2
 returns-2 c = λ s. raw-back _ _ (c .before .before .before .before .span .ensures) (c .before .before .before .raw-content .ensures s) (c .enum-told .given .1)

@@ -3,7 +3,7 @@ use mathlib.Core.Path.{_≡_, refl, sym, ap, _∙_}
 use mathlib.Core.Logic.{_≢_, _↔_}
 use mathlib.Core.List.{List}
 use mathlib.Core.Bool.{Bool, true, _||_, true≢false}
-use mathlib.Core.Option.{some}
+use mathlib.Core.Option.{Option, some}
 use Prim.Native.Nat.{ℕ, _-_, _*_, _≤_}
 use native.Mathlib.Omega.{arith}
 use native.Mathlib.Nat.{sub-zero}
@@ -15,11 +15,11 @@ use Rattle.rules.specs.Reader.{all}
 use Rattle.rules.specs.Bytes.{ascii, isPath, isFolder, parent}
 use Rattle.rules.specs.Bundle.{bundleOf}
 use Rattle.rules.specs.Files.{View, entryAt, isFolderOf, view, fetch}
-use Rattle.rules.specs.Sheet.{Records, encode, sheetLength, sheetOf, resolveString}
+use Rattle.rules.specs.Sheet.{Value, Records, encode, sheetLength, sheetOf, resolve, textOf}
 use Rattle.rules.specs.Includes.{includes}
 use Rattle.rules.specs.Expansion.{expansion}
 use Rattle.rules.specs.Pass.{middleText, expanded, passed, closed}
-use Rattle.rules.specs.Calls.{Setting, limit, zeros, padded, Holds, Found, foundAnswer, findFileResult, findFileOf, outputAnswer, resolveStringResult, resolveStringOf, resolveIncludesResult, resolveIncludesOf, expandedAnswer, preprocessTypstResult, preprocessTypstOf, definedAnswer, parseDefinitionsResult, parseDefinitionsOf, resolveResult, passedAnswer, closedOf, passResult, passOf}
+use Rattle.rules.specs.Calls.{Setting, limit, zeros, padded, Holds, Found, foundAnswer, findFileResult, findFileOf, outputAnswer, lookedAnswer, resolveResult, resolveOf, resolveIncludesResult, resolveIncludesOf, expandedAnswer, preprocessTypstResult, preprocessTypstOf, definedAnswer, parseDefinitionsResult, parseDefinitionsOf, passedAnswer, closedOf, passResult, passOf}
 use Rattle.rules.specs.Parts.{sheetLeft}
 use Rattle.rules.specs.Laws.Bool.{or-i-r, true-leb}
 use Rattle.rules.specs.Laws.Answer.{accepted-same, check-inv, bind-inv, orRefuse-inv}
@@ -106,19 +106,24 @@ pub find-known : (bundle path : List ℕ) → let k = findFileOf bundle path .nu
 unfolding findFileOf findFileResult isRefusal
 find-known bundle path = found-known (findFileResult bundle path) (search (numbered-bind, numbered-then, numbered-check, numbered-orRefuse, numbered-accepted) depth 12) (find-number bundle path)
 
--- TEXT.
-resolveString-fits : (sheet path : List ℕ) (n : ℕ) (o : List ℕ) → resolveStringResult sheet path n ≡ accepted o → length o ≤ n
-unfolding resolveStringResult
-resolveString-fits sheet path n o q =
+-- LOOKUP.
+resolve-fits : (sheet path : List ℕ) (n : ℕ) (v : Option Value) → resolveResult sheet path n ≡ accepted v → length (textOf v) ≤ n
+unfolding resolveResult
+resolve-fits sheet path n v q =
     let i = bind-inv (orRefuse 3 (sheetOf sheet)) _ q in
     let j = check-inv 6 (all ascii path) _ (i .2) in
-    let m = check-inv 11 (leb (length (resolveString (i .0) path)) n) _ (j .1) in
-    let e : length (resolveString (i .0) path) ≡ length o = ap length (accepted-same (m .1)) in
-    omega (arith, true-leb (length (resolveString (i .0) path)) n (m .0))
+    let m = check-inv 11 (leb (length (textOf (resolve (i .0) path))) n) _ (j .1) in
+    let e : length (textOf (resolve (i .0) path)) ≡ length (textOf v) = ap (λ x. length (textOf x)) (accepted-same (m .1)) in
+    omega (arith, true-leb (length (textOf (resolve (i .0) path))) n (m .0))
 
-pub resolveString-holds : (sheet path : List ℕ) (n : ℕ) → Holds n (resolveStringOf sheet path n .len) (resolveStringOf sheet path n .out)
-unfolding resolveStringOf
-resolveString-holds sheet path n = holds-output n (resolveStringResult sheet path n) (resolveString-fits sheet path n)
+holds-looked : (n : ℕ) (x : Answer (Option Value)) → ((v : Option Value) → x ≡ accepted v → length (textOf v) ≤ n) → Holds n (lookedAnswer n x .len) (lookedAnswer n x .out)
+unfolding lookedAnswer
+holds-looked n (refused k) h = holds-zeros n
+holds-looked n (accepted v) h = holds-padded n (textOf v) (h v refl)
+
+pub resolve-holds : (sheet path : List ℕ) (n : ℕ) → Holds n (resolveOf sheet path n .len) (resolveOf sheet path n .out)
+unfolding resolveOf
+resolve-holds sheet path n = holds-looked n (resolveResult sheet path n) (resolve-fits sheet path n)
 
 -- INCLUDES.
 resolveIncludes-fits : (bundle folder text : List ℕ) (n : ℕ) (o : List ℕ) → resolveIncludesResult bundle folder text n ≡ accepted o → length o ≤ n
@@ -211,13 +216,9 @@ parseDefinitions-sheet bundle path l w h =
     rw (y .1, take-append-seam (encode (y .0)) (zeros (l - length (encode (y .0))))) (record { records = y .0; keeps-layout = kept-sheet l (y .0) p; fits = true-leb _ _ (p .small) })
 
 -- NUMBERS of the other calls.
-pub resolve-numbered : (sheet path : List ℕ) → numbered (resolveResult sheet path) ≡ true
+pub resolve-numbered : (sheet path : List ℕ) (n : ℕ) → numbered (resolveResult sheet path n) ≡ true
 unfolding resolveResult isRefusal
-resolve-numbered sheet path = search (numbered-bind, numbered-then, numbered-check, numbered-orRefuse, numbered-accepted) depth 12
-
-pub resolveString-numbered : (sheet path : List ℕ) (n : ℕ) → numbered (resolveStringResult sheet path n) ≡ true
-unfolding resolveStringResult isRefusal
-resolveString-numbered sheet path n = search (numbered-bind, numbered-then, numbered-check, numbered-orRefuse, numbered-accepted) depth 12
+resolve-numbered sheet path n = search (numbered-bind, numbered-then, numbered-check, numbered-orRefuse, numbered-accepted) depth 12
 
 pub resolveIncludes-numbered : (bundle folder text : List ℕ) (n : ℕ) → numbered (resolveIncludesResult bundle folder text n) ≡ true
 unfolding resolveIncludesResult middleText isRefusal

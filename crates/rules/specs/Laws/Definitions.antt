@@ -8,11 +8,11 @@ use native.Mathlib.Omega.{arith}
 use lib.Dec.{leb}
 use lib.ListN.{length}
 use Rattle.rules.specs.Answer.{Answer, refused, accepted, isRefusal, _>>=_, _>>_, check}
-use Rattle.rules.specs.Reader.{all, same}
+use Rattle.rules.specs.Reader.{all}
 use Rattle.rules.specs.Run.{Step, Trace, run, final, limited}
 use Rattle.rules.specs.Bytes.{ascii, word, isPath, join, parent}
 use Rattle.rules.specs.Files.{View, File, absent, folder, file}
-use Rattle.rules.specs.Sheet.{Value, Records, end, rec, encode, sheetLength, goodValue, goodRecords, get, set}
+use Rattle.rules.specs.Sheet.{Value, Records, end, rec, encode, sheetLength, goodValue, goodRecords, resolve, set}
 use Rattle.rules.specs.Definitions.{Names, star, listed, definitionStep}
 use Rattle.rules.specs.Imports.{bindOne, bindIf, bindAll, bindListed, bindNames, importFile, imported, fileSheet, importedSheet, definitions}
 use Rattle.rules.specs.Laws.Bool.{and-l, and-r, and-i, leb-true}
@@ -21,8 +21,8 @@ use Rattle.rules.specs.Laws.Numbers.{numbered, numberedE, numberedT, lim
 use Rattle.rules.specs.Laws.Limit.{limited-text}
 use Rattle.rules.specs.Laws.Texts.{all-tail}
 use Rattle.rules.specs.Laws.Keep.{run-keeps}
-use Rattle.rules.specs.Laws.Sheet.{good-parts, same-eq, get-good, set-good, Kept}
-use Rattle.rules.specs.Laws.Values.{numberedOr, Reads, didHas, sheetGood, reads-definition}
+use Rattle.rules.specs.Laws.Sheet.{good-parts, resolve-good, set-good, Kept}
+use Rattle.rules.specs.Laws.Values.{numberedOr, Reads, didHas, sheetGood, ofWords, reads-definition}
 
 -- ANSWERS: refused with a number of section 8, or accepted with what has p.
 module _ {A : Type 0} (p : A → Bool) where
@@ -69,28 +69,16 @@ module _ {S : Type 0} (p : S → Bool) where
   limited-has : (size : S → ℕ) (L full r : ℕ) (t : Trace S) → isRefusal full ≡ true → RunHas t → numberedOr (λ y. p (y .1)) (limited size L full r t) ≡ true
   limited-has size L full r t q h = or-intro (λ y. p (y .1)) _ (limited-numbered size L full q t r (h .numbers)) (λ y a. rw (limited-text size L full t r a) (h .last))
 
--- BINDING names of good records in good records. A name that good records have is of bytes with p.
-get-name-at : (p : ℕ → Bool) (m n : List ℕ) (v w : Value) (r : Records) (c : Bool) → same m n ≡ c → all p m ≡ true → get (rec m v r) n ≡ some w → (get r n ≡ some w → all p n ≡ true) → all p n ≡ true
-unfolding get
-get-name-at p m n v w r true q a h ih = rw (same-eq m n q) at a
-get-name-at p m n v w r false q a h ih = ih (rw (q, get) at h)
-
-pub get-name : (s : Records) (p : ℕ → Bool) (l : ℕ) (n : List ℕ) (w : Value) → goodRecords s p l ≡ true → get s n ≡ some w → all p n ≡ true
-unfolding get
-get-name end p l n w h f = cc
-get-name (rec m v r) p l n w h f =
-    let g = good-parts m v r p l h in
-    get-name-at p m n v w r (same m n) refl (g .name) f (get-name r p l n w (g .later))
-
+-- BINDING names of good records in good records.
 module _ (L : ℕ) where
   one-good : (s : Records) (n : List ℕ) (w : Value) → sheetGood s ≡ true → all word n ≡ true → goodValue w 6 ≡ true → numberedOr sheetGood (bindOne L s n w) ≡ true
   unfolding bindOne numberedOr isRefusal
   one-good s n w h e q = or-check sheetGood 9 (leb (sheetLength (set s n w)) L) _ refl (λ l. set-good s word 6 n w h e q)
 
-  if-good : (s r : Records) (n : List ℕ) (x : Option Value) → get r n ≡ x → sheetGood s ≡ true → sheetGood r ≡ true → numberedOr sheetGood (bindIf L s n x) ≡ true
+  if-good : (s r : Records) (n : List ℕ) (x : Option Value) → resolve r n ≡ x → sheetGood s ≡ true → sheetGood r ≡ true → all word n ≡ true → numberedOr sheetGood (bindIf L s n x) ≡ true
   unfolding bindIf numberedOr
-  if-good s r n none e h g = h
-  if-good s r n (some w) e h g = one-good s n w h (get-name r word 6 n w g e) (get-good r word 6 n w g e)
+  if-good s r n none e h g k = h
+  if-good s r n (some w) e h g k = one-good s n w h k (resolve-good r word 6 n w g e)
 
   all-good : (r s : Records) → sheetGood s ≡ true → sheetGood r ≡ true → numberedOr sheetGood (bindAll L s r) ≡ true
   unfolding bindAll numberedOr
@@ -99,28 +87,29 @@ module _ (L : ℕ) where
       let k = good-parts n w r word 6 g in
       or-bind sheetGood sheetGood (bindOne L s n w) _ (one-good s n w h (k .name) (k .value)) (λ z q. all-good r z q (k .later))
 
-  listed-good : (ns : List (List ℕ)) (r s : Records) → sheetGood s ≡ true → sheetGood r ≡ true → numberedOr sheetGood (bindListed L s r ns) ≡ true
-  unfolding bindListed numberedOr
-  listed-good [] r s h g = h
-  listed-good (n ∷ ns) r s h g = or-bind sheetGood sheetGood (bindIf L s n (get r n)) _ (if-good s r n (get r n) refl h g) (λ z q. listed-good ns r z q g)
+  listed-good : (ns : List (List ℕ)) (r s : Records) → sheetGood s ≡ true → sheetGood r ≡ true → all (all word) ns ≡ true → numberedOr sheetGood (bindListed L s (resolve r) ns) ≡ true
+  unfolding bindListed numberedOr all
+  listed-good [] r s h g k = h
+  listed-good (n ∷ ns) r s h g k =
+      or-bind sheetGood sheetGood (bindIf L s n (resolve r n)) _ (if-good s r n (resolve r n) refl h g (and-l (all word n) (all (all word) ns) k)) (λ z q. listed-good ns r z q g (and-r (all word n) (all (all word) ns) k))
 
-  names-good : (n : Names) (r s : Records) → sheetGood s ≡ true → sheetGood r ≡ true → numberedOr sheetGood (bindNames L s r n) ≡ true
-  unfolding bindNames
-  names-good star r s h g = all-good r s h g
-  names-good (listed ns) r s h g = listed-good ns r s h g
+  names-good : (n : Names) (r s : Records) → sheetGood s ≡ true → sheetGood r ≡ true → ofWords n ≡ true → numberedOr sheetGood (bindNames L s r n) ≡ true
+  unfolding bindNames ofWords
+  names-good star r s h g k = all-good r s h g
+  names-good (listed ns) r s h g k = listed-good ns r s h g k
 
 -- FILES. inside: the sheet of an imported file.
 module _ (L : ℕ) (v : View) where
   module _ (inside : List ℕ → List ℕ → Answer Records) (inner : (g c : List ℕ) → numberedOr sheetGood (inside g c) ≡ true) where
-    import-good : (q : List ℕ) (x : File) (s : Records) (n : Names) → sheetGood s ≡ true → numberedOr sheetGood (importFile L v inside q x s n) ≡ true
+    import-good : (q : List ℕ) (x : File) (s : Records) (n : Names) → sheetGood s ≡ true → ofWords n ≡ true → numberedOr sheetGood (importFile L v inside q x s n) ≡ true
     unfolding importFile numberedOr isRefusal
-    import-good q absent s n h = h
-    import-good q folder s n h = refl
-    import-good q (file c) s n h = or-bind sheetGood sheetGood (inside (parent q) c) _ (inner (parent q) c) (λ r g. names-good L n r s h g)
+    import-good q absent s n h k = h
+    import-good q folder s n h k = refl
+    import-good q (file c) s n h k = or-bind sheetGood sheetGood (inside (parent q) c) _ (inner (parent q) c) (λ r g. names-good L n r s h g k)
 
-    imported-good : (g : List ℕ) (s : Records) (p : List ℕ) (n : Names) → sheetGood s ≡ true → numberedOr sheetGood (imported L v inside g s p n) ≡ true
+    imported-good : (g : List ℕ) (s : Records) (p : List ℕ) (n : Names) → sheetGood s ≡ true → ofWords n ≡ true → numberedOr sheetGood (imported L v inside g s p n) ≡ true
     unfolding imported isRefusal
-    imported-good g s p n h = or-check sheetGood 4 (isPath (join g p)) _ refl (λ e. import-good (join g p) (v (join g p)) s n h)
+    imported-good g s p n h k = or-check sheetGood 4 (isPath (join g p)) _ refl (λ e. import-good (join g p) (v (join g p)) s n h k)
 
     file-good : (g c : List ℕ) → numberedOr sheetGood (fileSheet L v inside g c) ≡ true
     unfolding fileSheet numberedOr isRefusal goodRecords

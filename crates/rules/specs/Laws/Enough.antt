@@ -9,6 +9,7 @@ use lib.Seq.{drop-cons, drop-drop}
 use Rattle.rules.specs.Reader.{Reader, ret, ifR, _>>=_, _>>_, the, but, either, empty, same, span, sees, skip, loop, rounds, Turn, again, stop}
 use Rattle.rules.specs.Run.{Step, Trace, step, run}
 use Rattle.rules.specs.Bytes.{blank, lineBlank, word}
+use Rattle.rules.specs.Sheet.{Lookup}
 use Rattle.rules.specs.Strings.{onto, literalFrom, literal, reference, plus, expressionRound}
 use Rattle.rules.specs.Expansion.{langValue, blockValue, argumentValue, argumentRound, arguments}
 
@@ -185,7 +186,7 @@ module _ {S A : Type 0} where
       go s [] h = unfold ifR in (Q .moves s [] h)
       go s (x ∷ xs) h = at s x xs (p x) h
 
-module _ (look : List ℕ → List ℕ) where
+module _ (look : Lookup) where
   pub shrinks-reference : Shrinks (reference look)
   unfolding reference
   shrinks-reference = search shrink

@@ -9,7 +9,7 @@ use lib.ListN.{length, drop, length-drop}
 use Rattle.rules.specs.Answer.{Answer, refused, accepted}
 use Rattle.rules.specs.Reader.{Reader, ifR, _>>=_, _>>_, the, but, either, prefix, span, sees, skip, mark, loop, rounds, Turn, again, stop}
 use Rattle.rules.specs.Bytes.{blank, lineBlank, letter, digit, word, nameByte, runByte}
-use Rattle.rules.specs.Sheet.{Value, nothing, dictionary, Records, end, resolveString}
+use Rattle.rules.specs.Sheet.{Value, nothing, dictionary, Records, end, Lookup}
 use Rattle.rules.specs.Strings.{reference, plus, expressionRound, expression}
 use Rattle.rules.specs.Definitions.{textValue, value, entryRound, dictionaryValue, listed, wordRound}
 use Rattle.rules.specs.Laws.Bool.{or-elim, or-false-r, true-eqb}
@@ -43,7 +43,7 @@ module _ {S A : Type 0} (f : S → Reader (Turn S A)) (d : S → A) (F : (s : S)
   pub shrinks-rounds : (s : S) → Shrinks (rounds f d s)
   shrinks-rounds s = record { shrinks = λ t. omega (arith, rounds-first s t, F s .shrinks t) }
 
-module _ (look : List ℕ → List ℕ) where
+module _ (look : Lookup) where
   shrinks-plus : (a : List ℕ) → Shrinks (plus look a)
   unfolding plus
   shrinks-plus a = search shrink depth 12
@@ -56,23 +56,23 @@ module _ (look : List ℕ → List ℕ) where
   unfolding expression
   shrinks-expression = shrinks-rounds (expressionRound look) (λ a. a) shrinks-expressionRound []
 
-module _ (L : ℕ) (s : Records) where
-  shrinks-textValue : Shrinks (textValue L s)
+module _ (L : ℕ) (look : Lookup) where
+  shrinks-textValue : Shrinks (textValue L look)
   unfolding textValue
   shrinks-textValue = search (shrink, shrinks-expression)
 
-  pub shrinks-value : (inner : Reader (Answer Value)) → Shrinks inner → Shrinks (value L s inner)
+  pub shrinks-value : (inner : Reader (Answer Value)) → Shrinks inner → Shrinks (value L look inner)
   unfolding value
   shrinks-value inner I = search (shrink, shrinks-mark, shrinks-textValue) depth 20
 
-  shrinks-entryRound : (inner : Reader (Answer Value)) → Shrinks inner → (d : Records) → Shrinks (entryRound L s inner d)
+  shrinks-entryRound : (inner : Reader (Answer Value)) → Shrinks inner → (d : Records) → Shrinks (entryRound L look inner d)
   unfolding entryRound
   shrinks-entryRound inner I d = search (shrink, shrinks-value) depth 20
 
-  pub shrinks-dictionary : (l : ℕ) → Shrinks (dictionaryValue L s l)
+  pub shrinks-dictionary : (l : ℕ) → Shrinks (dictionaryValue L look l)
   unfolding dictionaryValue
   shrinks-dictionary zero = shrinks-ret (refused 7)
-  shrinks-dictionary (suc l) = shrinks-rounds (entryRound L s (dictionaryValue L s l)) (λ d. accepted (dictionary d)) (shrinks-entryRound (dictionaryValue L s l) (shrinks-dictionary l)) end
+  shrinks-dictionary (suc l) = shrinks-rounds (entryRound L look (dictionaryValue L look l)) (λ d. accepted (dictionary d)) (shrinks-entryRound (dictionaryValue L look l) (shrinks-dictionary l)) end
 
 -- READERS at the byte x read it
 record Takes (x : ℕ) {A : Type 0} (r : Reader A) : Type 0 where
@@ -163,7 +163,7 @@ begins-run : (x : ℕ) → either "_" letter x ≡ true → runByte x ≡ true
 unfolding either runByte nameByte word letter digit the
 begins-run x h = or-elim (the "_" x) (letter x) h (λ e. ap runByte (true-eqb x (code "_") e)) (λ l. rw l refl)
 
-module _ {x : ℕ} (look : List ℕ → List ℕ) where
+module _ {x : ℕ} (look : Lookup) where
   takes-reference : either "_" letter x ≡ true → Takes x (reference look)
   unfolding reference
   takes-reference l = takes-span runByte (λ k. shrinks-ret _) (λ n. absurd (true≢false (sym (begins-run x l) ∙ n)))
@@ -183,13 +183,13 @@ unfolding blank but the
 no-newline x true q h = absurd (true≢false (sym (ap blank (true-eqb x (code "\n") q)) ∙ h))
 no-newline x false q h = rw q refl
 
-module _ (L : ℕ) (s : Records) where
-  takes-text : {x : ℕ} → (the "\"" x ≡ false → either "_" letter x ≡ true) → Takes x (textValue L s)
+module _ (L : ℕ) (look : Lookup) where
+  takes-text : {x : ℕ} → (the "\"" x ≡ false → either "_" letter x ≡ true) → Takes x (textValue L look)
   unfolding textValue
-  takes-text h = takes-bind (takes-expression (resolveString s) h) (λ t. shrinks-ret _)
+  takes-text h = takes-bind (takes-expression look h) (λ t. shrinks-ret _)
 
   -- At a byte that is no blank a value reads it
-  takes-value : (inner : Reader (Answer Value)) → Shrinks inner → (x : ℕ) → blank x ≡ false → Takes x (value L s inner)
+  takes-value : (inner : Reader (Answer Value)) → Shrinks inner → (x : ℕ) → blank x ≡ false → Takes x (value L look inner)
   unfolding value
   takes-value inner I x h =
       takes-past lineBlank (search (shrink, shrinks-mark, shrinks-textValue) depth 20)
@@ -199,7 +199,7 @@ module _ (L : ℕ) (s : Records) where
       (λ l. takes-past (but "\n") (shrinks-ret (accepted nothing)) (λ n. absurd (true≢false (sym (no-newline x (the "\n" x) refl h) ∙ n))))))))
 
   -- The key takes the byte, or the skip behind it, or the value
-  moves-entry : (inner : Reader (Answer Value)) → Shrinks inner → (d : Records) → Moves (entryRound L s inner d)
+  moves-entry : (inner : Reader (Answer Value)) → Shrinks inner → (d : Records) → Moves (entryRound L look inner d)
   unfolding entryRound either the
   moves-entry inner I d =
       moves-then (shrinks-span (either "," blank))
@@ -210,5 +210,5 @@ module _ (L : ℕ) (s : Records) where
       (moves-then shrinks-skip (moves-stop (accepted (dictionary d)))))
 
   -- An entry more: a byte was read
-  pub entry-moving : (inner : Reader (Answer Value)) → Shrinks inner → Moving (entryRound L s inner) (λ d. accepted (dictionary d))
+  pub entry-moving : (inner : Reader (Answer Value)) → Shrinks inner → Moving (entryRound L look inner) (λ d. accepted (dictionary d))
   entry-moving inner I d d′ t h = moves-entry inner I d .moves d′ t h

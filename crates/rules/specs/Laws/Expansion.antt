@@ -8,7 +8,7 @@ use Rattle.rules.specs.Reader.{Reader, _>>_, the, but, either, skip}
 use Rattle.rules.specs.Run.{unrefused, allWhole, endsInNewline}
 use Rattle.rules.specs.Bytes.{blank, lineBlank, letter, digit, word, nameByte, runByte}
 use Rattle.rules.specs.Files.{View}
-use Rattle.rules.specs.Sheet.{Records}
+use Rattle.rules.specs.Sheet.{Records, Lookup}
 use Rattle.rules.specs.Strings.{reference, plus, expressionRound, expression}
 use Rattle.rules.specs.Expansion.{Call, handsBack, refuses, outputs, Content, handedBack, noContent, given, readCall, content, Arguments, stalled, arguments, langValue, blockValue, argumentValue, argumentRound, rawEnd, rawArguments, raw, linkContentBlock, linkEnd, link, callDid, calling, callStep, importStep, letStep, referenceStep, copyStep, expansionStep, expansion}
 use Rattle.rules.specs.Laws.Limit.{joinRuns}
@@ -21,7 +21,7 @@ ended handsBack = false
 ended (refuses k) = false
 ended (outputs w o) = w
 
-module _ (look : List ℕ → List ℕ) where
+module _ (look : Lookup) where
   good-reference : Good (reference look)
   unfolding reference
   good-reference = search goods
@@ -56,7 +56,7 @@ unfolding rawEnd ended
 sure-rawEnd o stalled = sure-no ended (refuses 8) refl
 sure-rawEnd o (arguments l b) = sure-close ended ")" _ (unfold the in refl) refl
 
-module _ (v : View) (look : List ℕ → List ℕ) where
+module _ (v : View) (look : Lookup) where
   good-readCall : Good (readCall v look)
   unfolding readCall
   good-readCall = search (goods, good-expression) depth 12
@@ -93,7 +93,7 @@ good-linkEnd : (u : List ℕ) → Good (linkEnd u)
 unfolding linkEnd
 good-linkEnd u = search (goods, good-linkContentBlock) depth 12
 
-good-link : (look : List ℕ → List ℕ) → Good (link look)
+good-link : (look : Lookup) → Good (link look)
 unfolding link
 good-link look = search (goods, good-expression, good-linkEnd) depth 12
 
@@ -105,7 +105,7 @@ sure-linkEnd u = sure-then ended (good-span blank) (sure-over ended ")" _ _ (unf
     (surein-ret ended (outputs true u)))))
     (sure-then ended (good-span (but ")")) (sure-close ended ")" _ (unfold the in refl) refl)))
 
-sure-link : (look : List ℕ → List ℕ) → Sure ended (link look)
+sure-link : (look : Lookup) → Sure ended (link look)
 unfolding link ended
 sure-link look = sure-then ended (good-span blank) (sure-bind ended (good-sees (the "<")) (λ l. sure-if ended l (sure-no ended handsBack refl) (sure-bind ended (good-expression look) sure-linkEnd)))
 
@@ -143,17 +143,17 @@ steps-import : (s : Records) → Steps (importStep s)
 unfolding importStep but
 steps-import s = search lines
 
-steps-let : (s : Records) → Steps (letStep s)
+steps-let : (look : Lookup) (s : Records) → Steps (letStep look s)
 unfolding letStep but nameByte word letter digit the lineBlank blank either
-steps-let s = search lines depth 12
+steps-let look s = search lines depth 12
 
 steps-call : (m : List ℕ) {call : Reader Call} (s : Records) → Good call → Sure ended call → Steps (callStep m call s)
 unfolding callStep lineBlank blank but
 steps-call m s C O = search lines
 
-steps-reference : (s : Records) → Steps (referenceStep s)
+steps-reference : (look : Lookup) (s : Records) → Steps (referenceStep look s)
 unfolding referenceStep runByte nameByte word letter digit the
-steps-reference s = search lines depth 12
+steps-reference look s = search lines depth 12
 
 pub steps-expansion : (v : View) (s : Records) → Steps (expansionStep v s)
 unfolding expansionStep inline

@@ -74,7 +74,7 @@ module _ (P : Records → Type 0) (small : Records → Bool)
   unfolding calling
   keeps-calling s shown call p = record { keeps = λ t e l. keeps-call s shown ((skip >> call) t .0) ((skip >> call) t .1) t p }
 
-  keeps-let : (s : Records) → P s → Keeps (letStep s)
+  keeps-let : (s : Records) → P s → Keeps (letStep (resolve s) s)
   unfolding letStep _>>=_ _>>_ ret binds
   keeps-let s p = record {
     keeps = λ t e l.

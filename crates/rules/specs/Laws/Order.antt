@@ -15,7 +15,7 @@ use Rattle.rules.specs.Bundle.{bundleOf}
 use Rattle.rules.specs.Files.{fetch}
 use Rattle.rules.specs.Sheet.{sheetOf}
 use Rattle.rules.specs.Imports.{definitions, fileSheet}
-use Rattle.rules.specs.Calls.{Setting, limit, resolveResult, resolveStringResult, findFileResult, findFileOf, resolveIncludesResult, preprocessTypstResult, parseDefinitionsResult, passResult}
+use Rattle.rules.specs.Calls.{Setting, limit, resolveResult, findFileResult, findFileOf, resolveIncludesResult, preprocessTypstResult, parseDefinitionsResult, passResult}
 use Rattle.rules.specs.Laws.Bool.{true-some, false-some, true-eqb, false-eqb}
 use Rattle.rules.specs.Laws.Answer.{not-both}
 use Rattle.rules.specs.Laws.Sheet.{sheet-size}
@@ -53,13 +53,9 @@ unfolding firstBroken
 first-kept k true rs h = (refl, h)
 first-kept k false rs h = absurd (omega arith)
 
-pub resolve-order : (sheet path : List ℕ) → Refuses (resolveResult sheet path) ((3, isSome (sheetOf sheet)) ∷ (6, all ascii path) ∷ [])
+pub resolve-order : (sheet path : List ℕ) (n : ℕ) → Refuses (resolveResult sheet path n) ((3, isSome (sheetOf sheet)) ∷ (6, all ascii path) ∷ [])
 unfolding resolveResult orRefuse check _>>=_ _>>_
-resolve-order sheet path = layout (λ p. rw p) (λ s p. rule (λ q. rw (p, q)) (λ q. kept))
-
-pub resolveString-order : (sheet path : List ℕ) (n : ℕ) → Refuses (resolveStringResult sheet path n) ((3, isSome (sheetOf sheet)) ∷ (6, all ascii path) ∷ [])
-unfolding resolveStringResult orRefuse check _>>=_ _>>_
-resolveString-order sheet path n = layout (λ p. rw p) (λ s p. rule (λ q. rw (p, q)) (λ q. kept))
+resolve-order sheet path n = layout (λ p. rw p) (λ s p. rule (λ q. rw (p, q)) (λ q. kept))
 
 pub findFile-order : (bundle path : List ℕ) → Refuses (findFileResult bundle path) ((2, isSome (bundleOf bundle)) ∷ (4, isPath path) ∷ [])
 unfolding findFileResult orRefuse check _>>=_ _>>_

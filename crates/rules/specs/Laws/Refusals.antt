@@ -8,7 +8,7 @@ use Rattle.rules.specs.Reader.{Reader, ret, ifR, _>>=_, _>>_, bytes, all
 use Rattle.rules.specs.Run.{Emit, ok, put, Did}
 use Rattle.rules.specs.Bytes.{ascii, trim, join}
 use Rattle.rules.specs.Files.{View, fetch, opened}
-use Rattle.rules.specs.Sheet.{Records}
+use Rattle.rules.specs.Sheet.{Records, Lookup}
 use Rattle.rules.specs.Includes.{Quoted, unquoted, quoted, quote, Source, noParen, noPath, noLanguage, source, sourceArguments, toNewline, fenced, wrote, copied, copyByte, included, includeOf, includeMark, sourceText, sourceOf, sourceMark, includeStep, insideFile, includes}
 use Rattle.rules.specs.Expansion.{Call, handsBack, refuses, outputs, Content, handedBack, noContent, given, rawContent, readCall, content, Arguments, stalled, arguments, rawEnd, rawArguments, raw, linkContentBlock, linkEnd, link, writes, binds, callDid, calling, callStep, importStep, letStep, referenceStep, copyStep, expansionStep, expansion}
 use Rattle.rules.specs.Laws.Numbers.{numbered, numberedE, numberedT, numberedE-andThen, run-numbered, emitted-numbered, numbered-fetch, numbered-opened}
@@ -122,7 +122,7 @@ unfolding rawContent contentNumbered numbered
 content-numbered (refused k) h = h
 content-numbered (accepted o) h = refl
 
-module _ (v : View) (look : List ℕ → List ℕ) where
+module _ (v : View) (look : Lookup) where
   numbers-read : (p : List ℕ) → Yields contentNumbered (ret (rawContent (opened v p)))
   numbers-read p = yields-ret contentNumbered (rawContent (opened v p)) (content-numbered (opened v p) (numbered-opened v p))
 

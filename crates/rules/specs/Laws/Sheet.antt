@@ -10,7 +10,7 @@ use lib.ListN.{length, length-append}
 use Rattle.rules.specs.Reader.{all, empty, prefix, same}
 use Rattle.rules.specs.Bytes.{isByte, ascii, word, nameByte, less, split}
 use Rattle.rules.specs.Layout.{Parser, bind, _>>=_, _>>_, pure, broken, require, bit, byte, word16, takeBytes, field, fieldIf}
-use Rattle.rules.specs.Sheet.{Value, text, nothing, dictionary, Records, end, rec, word16Bytes, fieldBytes, fieldMask, count, valueMask, valueBytes, encode, sheetLength, value, oneRecord, someRecords, allRecords, levels, decode, before, goodValue, goodRecords, sheetOf, get, getFields, getPieces, resolve, textOf, resolveString, set}
+use Rattle.rules.specs.Sheet.{Value, text, nothing, dictionary, Records, end, rec, word16Bytes, fieldBytes, fieldMask, count, valueMask, valueBytes, encode, sheetLength, value, oneRecord, someRecords, allRecords, levels, decode, before, goodValue, goodRecords, sheetOf, get, getFields, getPieces, resolve, textOf, set}
 use Rattle.rules.specs.Laws.Bool.{and-l, and-r, and-i, and-false-r, or-i-l, or-i-r, or-elim, or-false-l, or-false-r, not-true, true-leb, leb-true, true-ltb, ltb-true, false-ltb, true-eqb, eqb-true, false-eqb}
 use Rattle.rules.specs.Laws.Texts.{all-right}
 
@@ -199,9 +199,8 @@ text-ascii (some (text t)) l g = g (text t) refl
 text-ascii (some (dictionary r)) l g = refl
 
 -- A text resolves to a text of bytes below 128.
-pub resolve-ascii : (s : Records) (t : List ℕ) → goodRecords s word 6 ≡ true → all ascii (resolveString s t) ≡ true
-unfolding resolveString
-resolve-ascii s t h = text-ascii (resolve s t) 6 (λ w q. resolve-good s word 6 t w h q)
+pub resolve-ascii : (s : Records) → goodRecords s word 6 ≡ true → (t : List ℕ) → all ascii (textOf (resolve s t)) ≡ true
+resolve-ascii s h t = text-ascii (resolve s t) 6 (λ w q. resolve-good s word 6 t w h q)
 
 -- BINDING.
 before-set-at : (m n k : List ℕ) (v w : Value) (r : Records) (c d : Bool) → less n k ≡ c → less k n ≡ d → less m n ≡ true → less m k ≡ true → before m (set (rec k w r) n v) ≡ true

@@ -8,12 +8,12 @@ use Rattle.rules.specs.Reader.{Reader, ret, _>>=_, _>>_, the, all, empty
 use Rattle.rules.specs.Bytes.{blank, letter, digit, word, nameByte, underscored, trimEnd, trim}
 use Rattle.rules.specs.Laws.Bool.{and-l, and-r, and-i, or-l}
 
-module _ (q : ℕ → Bool) where
-  pub all-append : (a b : List ℕ) → all q a ≡ true → all q b ≡ true → all q (a ++ b) ≡ true
-  unfolding all
-  all-append [] b p r = r
-  all-append (x ∷ xs) b p r = and-i (q x) _ (and-l (q x) (all q xs) p) (all-append xs b (and-r (q x) (all q xs) p) r)
+pub all-append : {A : Type 0} (q : A → Bool) (a b : List A) → all q a ≡ true → all q b ≡ true → all q (a ++ b) ≡ true
+unfolding all
+all-append q [] b p r = r
+all-append q (x ∷ xs) b p r = and-i (q x) _ (and-l (q x) (all q xs) p) (all-append q xs b (and-r (q x) (all q xs) p) r)
 
+module _ (q : ℕ → Bool) where
   pub all-left : (a b : List ℕ) → all q (a ++ b) ≡ true → all q a ≡ true
   unfolding all
   all-left [] b p = refl

@@ -9,9 +9,9 @@ use Rattle.rules.specs.Answer.{Answer, refused, accepted, isRefusal}
 use Rattle.rules.specs.Reader.{Reader, ret, ifR, _>>=_, _>>_, the, all, span, loop, rounds, Turn, again, stop}
 use Rattle.rules.specs.Run.{Did}
 use Rattle.rules.specs.Bytes.{ascii, word, nameByte, underscored}
-use Rattle.rules.specs.Sheet.{Value, dictionary, Records, end, set, valueLength, goodValue, goodRecords, resolveString}
+use Rattle.rules.specs.Sheet.{Value, dictionary, Records, end, set, valueLength, goodValue, goodRecords, Lookup, resolve, textOf}
 use Rattle.rules.specs.Strings.{escape, onto, literalFrom, literal, reference, plus, expressionRound, expression}
-use Rattle.rules.specs.Definitions.{measured, textValue, value, grown, entryRound, dictionaryValue, Names, listed, wordRound, names, bound, letBound, importStep, letStep, definitionStep}
+use Rattle.rules.specs.Definitions.{measured, textValue, value, grown, entryRound, dictionaryValue, Names, star, listed, listedMore, wordRound, names, bound, letBound, importStep, letStep, definitionStep}
 use Rattle.rules.specs.Laws.Bool.{and-l, and-r, and-i}
 use Rattle.rules.specs.Laws.Numbers.{numberedE}
 use Rattle.rules.specs.Laws.Texts.{all-append, span-all, Clean, clean-span, clean-sees, clean-mark, clean-skip, underscored-words}
@@ -114,7 +114,7 @@ unfolding literal
 reads-literal = record { reads = λ t e. literal-read t false e }
 
 -- And an expression, where every lookup answers such a text.
-module _ (look : List ℕ → List ℕ) (plain : (t : List ℕ) → all ascii (look t) ≡ true) where
+module _ (look : Lookup) (plain : (t : List ℕ) → all ascii (textOf (look t)) ≡ true) where
   reads-reference : Reads (all ascii) (reference look)
   unfolding reference
   reads-reference = search (reads-bind, reads-ret, clean-span, plain)
@@ -139,43 +139,53 @@ measured-good : (L l : ℕ) (v : Value) → goodValue v l ≡ true → valueGood
 unfolding measured valueGood numberedOr isRefusal
 measured-good L l v h = if-has (λ x. valueGood l x ≡ true) (leb (valueLength v) L) h refl
 
-module _ (L : ℕ) (s : Records) (good : goodRecords s word 6 ≡ true) where
-  reads-text : (l : ℕ) → Reads (valueGood l) (textValue L s)
+module _ (L : ℕ) (look : Lookup) (plain : (t : List ℕ) → all ascii (textOf (look t)) ≡ true) where
+  reads-text : (l : ℕ) → Reads (valueGood l) (textValue L look)
   unfolding textValue goodValue
-  reads-text l = search (reads-with (reads-expression (resolveString s) (λ t. resolve-ascii s t good)), reads-ret, measured-good)
+  reads-text l = search (reads-with (reads-expression look plain), reads-ret, measured-good)
 
-  reads-value : (l : ℕ) {inner : Reader (Answer Value)} → Reads (valueGood l) inner → Reads (valueGood l) (value L s inner)
+  reads-value : (l : ℕ) {inner : Reader (Answer Value)} → Reads (valueGood l) inner → Reads (valueGood l) (value L look inner)
   unfolding value valueGood numberedOr goodValue
   reads-value l i = search (reads-text, reads-bind, reads-then, reads-if, reads-ret, clean-span, clean-sees, clean-mark) depth 20
 
   grown-good : (l : ℕ) (d : Records) (k : List ℕ) (x : Answer Value) → goodRecords d nameByte l ≡ true → all nameByte k ≡ true → valueGood l x ≡ true →
-      turned (λ r. goodRecords r nameByte l) (valueGood (suc l)) (grown L s d k x) ≡ true
+      turned (λ r. goodRecords r nameByte l) (valueGood (suc l)) (grown L look d k x) ≡ true
   unfolding grown turned valueGood numberedOr isRefusal
   grown-good l d k (refused n) h e q = q
   grown-good l d k (accepted v) h e q =
       if-has (λ x. turned (λ r. goodRecords r nameByte l) (valueGood (suc l)) x ≡ true) (leb (valueLength (dictionary (set d k v))) L) (set-good d nameByte l k v h e q) refl
 
   reads-entry : (l : ℕ) {inner : Reader (Answer Value)} → Reads (valueGood l) inner → (d : Records) → goodRecords d nameByte l ≡ true →
-      Reads (turned (λ r. goodRecords r nameByte l) (valueGood (suc l))) (entryRound L s inner d)
+      Reads (turned (λ r. goodRecords r nameByte l) (valueGood (suc l))) (entryRound L look inner d)
   unfolding entryRound turned valueGood numberedOr goodValue
   reads-entry l i d h = search (reads-with (reads-span nameByte), reads-with (reads-value l i), reads-bind, reads-then, reads-if, reads-ret, clean-span, clean-sees, clean-skip, grown-good) depth 20
 
-  reads-dictionary : (l : ℕ) → Reads (valueGood l) (dictionaryValue L s l)
+  reads-dictionary : (l : ℕ) → Reads (valueGood l) (dictionaryValue L look l)
   unfolding dictionaryValue valueGood numberedOr isRefusal goodValue goodRecords
   reads-dictionary zero = reads-ret (refused 7) refl
-  reads-dictionary (suc l) = reads-rounds (entryRound L s (dictionaryValue L s l)) (λ d. accepted (dictionary d)) (λ r. goodRecords r nameByte l) (valueGood (suc l)) (reads-entry l (reads-dictionary l)) (λ d h. h) end refl
+  reads-dictionary (suc l) = reads-rounds (entryRound L look (dictionaryValue L look l)) (λ d. accepted (dictionary d)) (λ r. goodRecords r nameByte l) (valueGood (suc l)) (reads-entry l (reads-dictionary l)) (λ d h. h) end refl
 
--- NAMES of an import: whatever they are, the text behind them has bytes below 128 only.
-reads-word : (ws : List (List ℕ)) → Reads (turned (λ ws. true) (λ n. true)) (wordRound ws)
-unfolding wordRound turned
-reads-word ws = search (reads-bind, reads-then, reads-if, reads-ret, clean-span, clean-mark) depth 20
+-- NAMES of an import: those listed are words.
+unfoldable pub ofWords : Names → Bool
+ofWords star = true
+ofWords (listed ws) = all (all word) ws
 
-reads-words : (w : List ℕ) → Reads (λ n. true) (rounds wordRound listed (w ∷ []))
-reads-words w = reads-rounds wordRound listed (λ ws. true) (λ n. true) (λ ws h. reads-word ws) (λ ws h. refl) (w ∷ []) refl
+more-words : (ws : List (List ℕ)) (w : List ℕ) → all (all word) ws ≡ true → all word w ≡ true → all (all word) (listedMore ws w) ≡ true
+unfolding listedMore
+more-words ws [] h e = h
+more-words ws (x ∷ xs) h e = all-append (all word) ws ((x ∷ xs) ∷ []) h (unfold all in and-i (all word (x ∷ xs)) true e refl)
 
-reads-names : Reads (λ n. true) names
-unfolding names
-reads-names = search (reads-words, reads-bind, reads-if, reads-ret, clean-span, clean-mark) depth 20
+reads-word : (ws : List (List ℕ)) → all (all word) ws ≡ true → Reads (turned (all (all word)) ofWords) (wordRound ws)
+unfolding wordRound turned ofWords
+reads-word ws h = search (reads-with (reads-span word), reads-bind, reads-then, reads-if, reads-ret, clean-span, clean-mark, more-words) depth 20
+
+reads-words : (w : List ℕ) → all word w ≡ true → Reads ofWords (rounds wordRound listed (w ∷ []))
+unfolding all ofWords
+reads-words w h = reads-rounds wordRound listed (all (all word)) ofWords reads-word (λ ws k. k) (w ∷ []) (and-i (all word w) true h refl)
+
+reads-names : Reads ofWords names
+unfolding names ofWords
+reads-names = search (reads-with (reads-span word), reads-words, reads-bind, reads-if, reads-ret, clean-mark) depth 20
 
 -- STEPS: a refusal of the step has a number of section 8, and the state after it has p.
 unfoldable pub didHas : {S : Type 0} → (S → Bool) → Did S → Bool
@@ -195,7 +205,7 @@ unfolding letBound valueGood numberedOr
 let-good s n (refused k) h e q = bound-good s (refused k) h q
 let-good s n (accepted v) h e q = bound-good s (accepted (set s (underscored n) v)) h (set-good s word 6 (underscored n) v h (underscored-words n e) q)
 
-module _ (L : ℕ) (imported : Records → List ℕ → Names → Answer Records) (gives : (s : Records) (p : List ℕ) (n : Names) → sheetGood s ≡ true → numberedOr sheetGood (imported s p n) ≡ true) where
+module _ (L : ℕ) (imported : Records → List ℕ → Names → Answer Records) (gives : (s : Records) (p : List ℕ) (n : Names) → sheetGood s ≡ true → ofWords n ≡ true → numberedOr sheetGood (imported s p n) ≡ true) where
   reads-same : (s : Records) → sheetGood s ≡ true → Reads (didHas sheetGood) (ret (bound s (accepted s)))
   unfolding numberedOr
   reads-same s h = reads-ret _ (bound-good s (accepted s) h h)
@@ -206,7 +216,7 @@ module _ (L : ℕ) (imported : Records → List ℕ → Names → Answer Records
 
   reads-let : (s : Records) → sheetGood s ≡ true → Reads (didHas sheetGood) (letStep L imported s)
   unfolding letStep
-  reads-let s h = search (reads-with (reads-span nameByte), reads-with (reads-value L s h 6 (reads-dictionary L s h 6)), reads-then, reads-ret, clean-span, let-good) depth 20
+  reads-let s h = search (reads-with (reads-span nameByte), reads-with (reads-value L (resolve s) (resolve-ascii s h) 6 (reads-dictionary L (resolve s) (resolve-ascii s h) 6)), reads-then, reads-ret, clean-span, let-good) depth 20
 
   -- A step of a file of definitions, where an import is refused with a number of section 8 or gives good records.
   pub reads-definition : (s : Records) → sheetGood s ≡ true → Reads (didHas sheetGood) (definitionStep L imported s)

@@ -1,16 +1,28 @@
-//! `resolve` and `resolve_string` against the reference's, with the refusals by `oracle::layout`.
+//! `resolve`: the accepted calls against both lookups of the reference, the kind by its `resolve` and the text by its `resolve_string`;
+//! the refused ones against 01 and 02 as `oracle::lookup` reads them.
 use super::{Mode, same};
 use crate::buffer::Buffer;
 use crate::case::{Case, Form};
 use crate::rng::Rng;
 use crate::sheets;
-use oracle::layout::{is_sheet, is_text};
+use oracle::layout::is_sheet;
+use oracle::lookup::{KINDS, Looked, answer};
 use oracle::{Context, Tree, sheet};
-use wagtailfen::{Resolved, Text};
+use wagtailfen::{Resolved, TEXT, resolve};
 
+#[derive(Default)]
 pub struct Lookup {
-    /// Bytes that mostly are no sheet.
-    pub damaged: bool,
+    /// Bytes that mostly are no sheet, in every case and not only in one of so many.
+    damaged: bool,
+    tally: Tally,
+}
+
+const DAMAGED_ONE_IN: usize = 8;
+
+impl Lookup {
+    pub fn damaged() -> Lookup {
+        Lookup { damaged: true, ..Lookup::default() }
+    }
 }
 
 impl Mode for Lookup {
@@ -19,26 +31,32 @@ impl Mode for Lookup {
     }
 
     fn case(&mut self, rng: &mut Rng) -> Case {
-        let (sheet, path) = if self.damaged { sheets::damaged_sheet(rng) } else { kept(rng) };
+        let damaged = self.damaged || rng.one_in(DAMAGED_ONE_IN);
+        let (sheet, path) = if damaged { sheets::damaged_sheet(rng) } else { kept(rng) };
         let room = sheets::room(text_length(&sheet, &path), rng);
         Case::default().input("sheet", Form::Sheet, sheet).input("path", Form::Plain, path).room("out", room)
     }
 
     fn run(&mut self, case: &Case) -> Result<&'static str, String> {
         let (sheet, path, room) = (case.bytes(0), case.bytes(1), case.len(0));
-        let (number, kind, text) = match wanted(sheet, path)? {
-            Ok((kind, text)) => (0, kind, text),
-            Err(number) => (number, 0, String::new()),
-        };
-        same("resolve", wagtailfen::resolve(sheet, path), Resolved { number, kind })?;
-
-        let number = if number == 0 && text.len() > room { 11 } else { number };
-        let text = if number == 0 { text.as_bytes() } else { b"" };
+        let tree = tree_of(sheet)?;
+        let whole = answer(tree.as_ref(), path, usize::MAX);
+        if let (Some(tree), Ok(whole)) = (&tree, &whole) {
+            held_against_reference(tree, path, whole)?;
+        }
+        let wanted = answer(tree.as_ref(), path, room);
+        let number = wanted.as_ref().err().copied().unwrap_or(0);
+        let Looked { kind, text } = wanted.unwrap_or_default();
         let mut out = Buffer::new(room);
-        let here = wagtailfen::resolve_string(sheet, path, out.inside());
-        same("resolve_string", here, Text { number, len: text.len() })?;
-        out.check("resolve_string: out", text)?;
-        Ok(label(number, kind))
+        let here = resolve(sheet, path, out.inside());
+        same("resolve", here, Resolved { number, kind, len: text.len() })?;
+        out.check("resolve: out", &text)?;
+        self.tally.count(here, whole.map_or(0, |looked| looked.text.len()), room);
+        Ok(label(here))
+    }
+
+    fn summary(&self) -> Option<String> {
+        Some(self.tally.summary())
     }
 }
 
@@ -48,25 +66,17 @@ fn kept(rng: &mut Rng) -> (Vec<u8>, Vec<u8>) {
     (sheet::encode(&tree).expect("lengths of 16 bits"), path)
 }
 
-/// How long an output has to be; 0 for a refusal.
+/// How long the text is that the path names, also in a sheet that breaks a rule but can be read; 0 where it names none.
 fn text_length(sheet: &[u8], path: &[u8]) -> usize {
-    match wanted(sheet, path) {
-        Ok(Ok((_, text))) => text.len(),
-        _ => 0,
-    }
+    let tree = sheet::decode(sheet);
+    answer(tree.as_ref(), path, usize::MAX).map_or(0, |looked| looked.text.len())
 }
 
-/// The kind and the text by the reference; the refusal 3 or 6 by the rules.
-type Wanted = Result<(u8, String), u8>;
-
-fn wanted(sheet: &[u8], path: &[u8]) -> Result<Wanted, String> {
-    let Some(tree) = tree_of(sheet)? else { return Ok(Err(3)) };
-    if !is_text(path) {
-        return Ok(Err(6));
-    }
-    let context = Context::new(&tree).ok_or("this driver: a sheet that the reference cannot hold")?;
-    let path = str::from_utf8(path).map_err(|e| e.to_string())?;
-    Ok(Ok((context.resolve(path), context.resolve_string(path))))
+/// The kind and the text by 01 must be the reference's.
+fn held_against_reference(tree: &Tree, path: &[u8], by_01: &Looked) -> Result<(), String> {
+    let context = Context::new(tree).ok_or("this driver: a sheet that the reference cannot hold")?;
+    let looked = context.looked(str::from_utf8(path).map_err(|e| e.to_string())?);
+    if looked == *by_01 { Ok(()) } else { Err(format!("this driver: by 01 {by_01:?}, the reference {looked:?}")) }
 }
 
 /// None where a rule is broken. A sheet that keeps them is read, and written back as it is.
@@ -81,14 +91,49 @@ fn tree_of(bytes: &[u8]) -> Result<Option<Tree>, String> {
     Ok(Some(tree))
 }
 
-fn label(number: u8, kind: u8) -> &'static str {
-    match (number, kind) {
-        (3, _) => "3 sheet",
-        (6, _) => "6 path",
-        (11, _) => "11 short",
-        (_, 0) => "missing",
-        (_, 1) => "none",
-        (_, 2) => "text",
-        _ => "dictionary",
+fn label(here: Resolved) -> &'static str {
+    match here.number {
+        3 => "3 sheet",
+        6 => "6 path",
+        11 => "11 short",
+        _ if here.kind == TEXT && here.len == 0 => "empty text",
+        _ => KINDS[usize::from(here.kind)],
+    }
+}
+
+/// Which outputs the cases had.
+#[derive(Default)]
+struct Tally {
+    /// Accepted: without a text into no bytes and into some, a text into just its length and into more.
+    nothing: [u64; 2],
+    texts: [u64; 2],
+    /// 11: short by one byte, and by more.
+    short: [u64; 2],
+}
+
+impl Tally {
+    /// `len`: how long the text is.
+    fn count(&mut self, here: Resolved, len: usize, room: usize) {
+        match here.number {
+            0 if len == 0 => self.nothing[usize::from(room > 0)] += 1,
+            0 => self.texts[usize::from(room > len)] += 1,
+            11 => self.short[usize::from(room + 1 < len)] += 1,
+            _ => {}
+        }
+    }
+
+    fn summary(&self) -> String {
+        let Tally { nothing, texts, short } = self;
+        format!(
+            "  {} accepted, each held against the reference: no bytes to write, and an output of none {}, of some {}; a text, and an \
+             output of its length {}, a longer one {}\n  11: short by one {}, by more {}",
+            nothing.iter().chain(texts).sum::<u64>(),
+            nothing[0],
+            nothing[1],
+            texts[0],
+            texts[1],
+            short[0],
+            short[1]
+        )
     }
 }

@@ -1,4 +1,4 @@
-//! A mode is a public call or two with a generator of cases. To add one: implement `Mode` and list it in `all`.
+//! A mode is a public call with a generator of cases. To add one: implement `Mode` and list it in `all`.
 //! Calls of the reference that may hang run in `oracle::child::Runner`, which a mode can hold.
 use crate::case::{Case, hex};
 use crate::rng::Rng;
@@ -34,8 +34,8 @@ pub trait Mode {
 
 pub fn all() -> Vec<Box<dyn Mode>> {
     vec![
-        Box::new(lookup::Lookup { damaged: false }),
-        Box::new(lookup::Lookup { damaged: true }),
+        Box::new(lookup::Lookup::default()),
+        Box::new(lookup::Lookup::damaged()),
         Box::new(files::Find { damaged: false, disk: false }),
         Box::new(files::Find { damaged: true, disk: false }),
         Box::new(files::Find { damaged: false, disk: true }),

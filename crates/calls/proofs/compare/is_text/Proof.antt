@@ -11,7 +11,7 @@ use Prim.Native.Nat.{_≤_, _-_}
 use native.Mathlib.Omega.{arith}
 use borrow.Author.Tests.{not-true, not-false}
 use lib.ListN.{length}
-use Rattle.rules.specs.Sheet.{resolveString}
+use Rattle.rules.specs.Sheet.{resolve}
 use Rattle.sheet.specs.Find.{IsSheet}
 use Rattle.buffers.specs.Put.{Writer}
 use Rattle.buffers.specs.Laws.{put-length, put-writer}
@@ -20,7 +20,7 @@ use Rattle.strings.specs.Laws.{ExpressionAt, expression-start, term-inside, exp
 use Rattle.calls.specs.Compare.{start, compared, differs}
 
 abbrev Inv-loop : tie.InvT-loop
-Inv-loop text sheet other none₀ i₀ z₀ none i z = (i ≤ length text) × Writer 0 (z .next) × (length none₀ ≤ 0) × (length none ≡ length none₀) × ((s : IsSheet sheet) → ExpressionAt (resolveString (s .r)) 0 other text none₀ start none z i)
+Inv-loop text sheet other none₀ i₀ z₀ none i z = (i ≤ length text) × Writer 0 (z .next) × (length none₀ ≤ 0) × (length none ≡ length none₀) × ((s : IsSheet sheet) → ExpressionAt (resolve (s .r)) 0 other text none₀ start none z i)
 
 abbrev μ-loop : tie.MeasureT-loop
 μ-loop text sheet other none₀ i₀ z₀ none i z = length text - i

@@ -11,7 +11,7 @@ use Prim.Native.Nat.{_≤_, _+_, _-_}
 use native.Mathlib.Omega.{arith}
 use borrow.Author.Tests.{not-true, not-false}
 use lib.ListN.{length}
-use Rattle.rules.specs.Sheet.{resolveString}
+use Rattle.rules.specs.Sheet.{resolve}
 use Rattle.sheet.specs.Find.{IsSheet}
 use Rattle.buffers.specs.Put.{Writer}
 use Rattle.buffers.specs.Laws.{put-length, put-writer}
@@ -19,7 +19,7 @@ use Rattle.scan.specs.Laws.{sees-the}
 use Rattle.strings.specs.Laws.{ExpressionAt, expression-start, term-inside, expression-none, expression-last, expression-again}
 
 abbrev Inv-loop : tie.InvT-loop
-Inv-loop text sheet other out₀ room i₀ z₀ out i z = (i ≤ length text) × Writer room (z .next) × (length out ≡ length out₀) × ((s : IsSheet sheet) → ExpressionAt (resolveString (s .r)) room other text out₀ z₀ out z i)
+Inv-loop text sheet other out₀ room i₀ z₀ out i z = (i ≤ length text) × Writer room (z .next) × (length out ≡ length out₀) × ((s : IsSheet sheet) → ExpressionAt (resolve (s .r)) room other text out₀ z₀ out z i)
 
 abbrev μ-loop : tie.MeasureT-loop
 μ-loop text sheet other out₀ room i₀ z₀ out i z = length text - i
