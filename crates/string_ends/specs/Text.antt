@@ -17,8 +17,10 @@ use Rattle.rules.specs.Strings.{escape, onto, literalFrom, literal, reference, 
 use Rattle.rules.specs.Laws.Enough.{rounds-again, rounds-stop, expression-moving}
 use Rattle.scan.specs.Laws.{seen, skip-at, tail-part}
 use Rattle.scan.specs.Stretches.{span-stops}
-use Rattle.scan.specs.Sets.{plainByte, Spans, Sees}
-use Rattle.string_ends.specs.Ends.{Ends, Makes, IsRound, EndsRound}
+use Rattle.scan.specs.Sets.{part, plainByte, Spans, Sees}
+use Rattle.string_ends.specs.Ends.{Ends, Makes, IsRound, Begins, EndsRound}
+use Rattle.string_ends.specs.declared.RoundStart.{RoundStart}
+use Rattle.string_ends.specs.declared.RoundStart.the-variants.{Literal, Reference, Nothing}
 
 -- LITERALS.
 onto-onto : (a b : List ℕ) (r : List ℕ × List ℕ) → onto a (onto b r) ≡ onto (a ++ b) r
@@ -168,6 +170,29 @@ module _ (look : Lookup) {t : List ℕ} {i : ℕ} (l : Spans lineBlank t 0 i) {f
       goes = λ v z. absurd (true≢false (sym v));
       stops = λ v z. rw append-nil (round-stop look t i l z (seen q e) (seen n d));
     }
+
+-- By what it begins with: where it lies, and where it ends.
+module _ (t : List ℕ) {s : RoundStart} (b : Begins t s) where
+  pub literal-inside : {i : ℕ} → s ≡ Literal i → i ≤ length t
+  unfolding Begins
+  literal-inside e = (rw e at b) .0
+
+  pub reference-inside : {i k : ℕ} → s ≡ Reference i k → (i ≤ k) × (k ≤ length t)
+  unfolding Begins
+  reference-inside e = let c = rw e at b in (c .0, c .1)
+
+  module _ (look : Lookup) where
+    pub round-at-literal : {i k : ℕ} → s ≡ Literal i → Ends (literal (part t i (length t))) (part t i (length t)) k → IsRound look true t (i + k) (literal (part t i (length t)) .0)
+    unfolding Begins
+    round-at-literal {k = k} e w = (rw e at b) .1 look k w
+
+    pub round-at-reference : {i k : ℕ} → s ≡ Reference i k → IsRound look true t k (textOf (look (underscored (part t i k))))
+    unfolding Begins
+    round-at-reference e = (rw e at b) .2 look
+
+    pub round-at-nothing : {i : ℕ} → s ≡ Nothing i → IsRound look false t i []
+    unfolding Begins
+    round-at-nothing e = (rw e at b) look
 
 -- An expression is read up to i; v is its text so far.
 pub record ExpressionTo (look : Lookup) (t : List ℕ) (i : ℕ) (v : List ℕ) : Type 0 where

@@ -1,7 +1,7 @@
 // Where literals and expressions end (document 01, section 3): the same for every sheet, and found without their texts.
 ghost use Rattle.rules.specs.Sheet.{Lookup};
 ghost use Rattle.rules.specs.Strings.{literal, expression};
-ghost use Rattle.string_ends.specs.Ends.{Ends, EndsRound};
+ghost use Rattle.string_ends.specs.Ends.{Ends, Begins, EndsRound};
 
 // Where a literal ends, from behind its quote.
 pub fn literal_end(text: &[u8]) -> usize
@@ -23,6 +23,28 @@ pub fn literal_end(text: &[u8]) -> usize
     }
 }
 
+// What a round of an expression begins with: a literal, from behind its quote; a reference's run; neither.
+pub enum RoundStart {
+    Literal { from: usize },
+    Reference { from: usize, to: usize },
+    Nothing { at: usize },
+}
+
+// What a round of an expression begins with, behind line blanks.
+pub fn round_start(text: &[u8]) -> RoundStart
+    ensures { λ r. ⌜ Begins (now (text .entry)) r ⌝ }
+{
+    let i = scan::span(text, 0, scan::Set::LineBlank);
+    if scan::at(text, i, b'"') {
+        return RoundStart::Literal { from: i + 1 };
+    }
+    if scan::sees(text, i, scan::Set::UnderscoreOrLetter) {
+        let to = scan::span(text, i, scan::Set::Run);
+        return RoundStart::Reference { from: i, to };
+    }
+    RoundStart::Nothing { at: i }
+}
+
 // Where a round of an expression ends, and is there a term?
 pub struct RoundEnd {
     pub found: bool,
@@ -33,24 +55,20 @@ pub struct RoundEnd {
 fn round_end(text: &[u8]) -> RoundEnd
     ensures { λ r. ⌜ EndsRound (now (text .entry)) (r .found) (r .used) ⌝ }
 {
-    let i = scan::span(text, 0, scan::Set::LineBlank);
-    if scan::at(text, i, b'"') {
-        let k = literal_end(&text[i + 1..]);
-        return RoundEnd {
+    let start = round_start(text);
+    match start {
+        RoundStart::Literal { from } => RoundEnd {
             found: true,
-            used: i + 1 + k,
-        };
-    }
-    if scan::sees(text, i, scan::Set::UnderscoreOrLetter) {
-        let e = scan::span(text, i, scan::Set::Run);
-        return RoundEnd {
+            used: from + literal_end(&text[from..]),
+        },
+        RoundStart::Reference { from: _, to } => RoundEnd {
             found: true,
-            used: e,
-        };
-    }
-    RoundEnd {
-        found: false,
-        used: i,
+            used: to,
+        },
+        RoundStart::Nothing { at } => RoundEnd {
+            found: false,
+            used: at,
+        },
     }
 }
 

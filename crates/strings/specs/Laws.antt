@@ -5,8 +5,8 @@ use mathlib.Core.Bool.{Bool, true, false}
 use Prim.Native.Nat.{ℕ, _+_, _-_, _≤_, _<_}
 use native.Mathlib.Omega.{arith}
 use lib.ListN.{length, take, drop, getD}
-use Rattle.rules.specs.Reader.{the, either}
-use Rattle.rules.specs.Bytes.{word, lineBlank, letter, runByte, underscored}
+use Rattle.rules.specs.Reader.{the}
+use Rattle.rules.specs.Bytes.{word, lineBlank, underscored}
 use Rattle.rules.specs.Strings.{escape, literal, expression}
 use Rattle.rules.specs.Sheet.{Records, encode, goodRecords, Lookup, resolve, textOf}
 use Rattle.sheet.specs.declared.lookup.Found.{Found}
@@ -17,8 +17,10 @@ use Rattle.buffers.specs.Put.{Writer}
 use Rattle.strings.specs.declared.progress.Progress.{Progress}
 use Rattle.strings.specs.Progress.{Adds, adds-none, adds-then}
 use Rattle.strings.specs.Read.{beginning, Wrote, Took, IsTerm}
-use Rattle.string_ends.specs.Ends.{Makes}
-use Rattle.string_ends.specs.Text.{LiteralTo, literal-begun, makes-end, makes-quote, makes-last, literal-on, literal-round, reference-round, no-round, ExpressionTo, expression-begun, round-inside, makes-none, makes-plus, expression-on}
+use Rattle.string_ends.specs.declared.RoundStart.{RoundStart}
+use Rattle.string_ends.specs.declared.RoundStart.the-variants.{Literal, Reference, Nothing}
+use Rattle.string_ends.specs.Ends.{Makes, Begins}
+use Rattle.string_ends.specs.Text.{LiteralTo, literal-begun, makes-end, makes-quote, makes-last, literal-on, round-at-literal, round-at-reference, round-at-nothing, ExpressionTo, expression-begun, round-inside, makes-none, makes-plus, expression-on}
 
 -- A text that was made, and is added.
 took : {room : ℕ} {o : List ℕ} {r : List ℕ × List ℕ} {t b : List ℕ} {a : Progress} {c : List ℕ} {k : ℕ} {z : Progress} {v : List ℕ} → Makes r t k v → Adds room o b a v c z → Took room o r t b a c k z
@@ -54,17 +56,16 @@ pub gives-run : (s run : List ℕ) (f : Found) → ((r : Records) → s ≡ enco
 unfolding underscoredIf
 gives-run s run f told i = told (i .r) (i .bytes) (i .good)
 
--- The ways through a round.
-module _ (look : Lookup) {room : ℕ} {o t : List ℕ} {i : ℕ} (l : Spans lineBlank t 0 i) {f : Bool} (q : Sees (the "\"") t i f) {b : List ℕ} {a : Progress} where
-  pub term-literal : {c : List ℕ} {k : ℕ} {r : Progress} → f ≡ true → Took room o (literal (take (length t - (i + 1)) (drop (i + 1) t))) (take (length t - (i + 1)) (drop (i + 1) t)) b a c k r → IsTerm look room o true t b a c (i + 1 + k) r
-  term-literal e w = record { text = _; round = literal-round look l q e (record { inside = w .inside; rest = w .rest }); adds = w .adds }
+-- The ways through a round, by what it begins with.
+module _ (look : Lookup) {room : ℕ} {o : List ℕ} (t : List ℕ) {s : RoundStart} (w : Begins t s) {b : List ℕ} {a : Progress} where
+  pub term-literal : {i : ℕ} {c : List ℕ} {k : ℕ} {r : Progress} → s ≡ Literal i → Took room o (literal (part t i (length t))) (part t i (length t)) b a c k r → IsTerm look room o true t b a c (i + k) r
+  term-literal e v = record { text = _; round = round-at-literal t w look e (record { inside = v .inside; rest = v .rest }); adds = v .adds }
 
-  module _ {g : Bool} (e : f ≡ false) (n : Sees (either "_" letter) t i g) where
-    pub term-reference : {c : List ℕ} {k : ℕ} {r : Progress} {s : List ℕ} {x y : ℕ} → g ≡ true → Spans runByte t i k → Places s (textOf (look (underscored (take (k - i) (drop i t))))) x y → Adds room o b a (part s x y) c r → IsTerm look room o true t b a c k r
-    term-reference d m h u = record { text = _; round = reference-round look l q e n d m; adds = rw (h .text) at u }
+  pub term-reference : {i k : ℕ} {c : List ℕ} {r : Progress} {z : List ℕ} {x y : ℕ} → s ≡ Reference i k → Places z (textOf (look (underscored (part t i k)))) x y → Adds room o b a (part z x y) c r → IsTerm look room o true t b a c k r
+  term-reference e h u = record { text = _; round = round-at-reference t w look e; adds = rw (h .text) at u }
 
-    pub term-stop : Writer room (a .next) → g ≡ false → IsTerm look room o false t b a b i a
-    term-stop w d = record { text = []; round = no-round look l q e n d; adds = adds-none w o b }
+  pub term-stop : {i : ℕ} → s ≡ Nothing i → Writer room (a .next) → IsTerm look room o false t b a b i a
+  term-stop e h = record { text = []; round = round-at-nothing t w look e; adds = adds-none h o b }
 
 -- An expression is read up to i.
 pub record ExpressionAt (look : Lookup) (room : ℕ) (o t b : List ℕ) (a : Progress) (c : List ℕ) (z : Progress) (i : ℕ) : Type 0 where

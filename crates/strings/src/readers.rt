@@ -3,6 +3,8 @@
 use crate::find_text;
 use crate::progress::Progress;
 use crate::progress::add;
+use string_ends::RoundStart;
+use string_ends::round_start;
 ghost use Prim.Native.Nat.{_≤_};
 ghost use lib.ListN.{length};
 ghost use Rattle.rules.specs.Sheet.{resolve};
@@ -79,32 +81,33 @@ pub fn term(
     requires { ⌜ Writer room (a .next) × (length (now out) ≤ room) × IsSheet (now sheet) ⌝ }
     ensures { λ r. ⌜ ((s : IsSheet (now (sheet .entry))) → IsTerm (resolve (s .r)) room (now (other .entry)) (r .found) (now (text .entry)) (now (out .entry)) a (now (out .exit)) (r .used) (r .to)) ⌝ }
 {
-    let i = scan::span(text, 0, scan::Set::LineBlank);
-    if scan::at(text, i, b'"') {
-        let s = literal(&text[i + 1..], other, out, room, a);
-        let to = s.to;
-        return Round {
-            found: true,
-            used: i + 1 + s.used,
-            to,
-        };
-    }
-    if scan::sees(text, i, scan::Set::UnderscoreOrLetter) {
-        let e = scan::span(text, i, scan::Set::Run);
-        let f = find_text(sheet, &text[i..e]);
-        let from = f.from;
-        let end = f.to;
-        let to = add(other, out, room, a, &sheet[from..end]);
-        return Round {
-            found: true,
-            used: e,
-            to,
-        };
-    }
-    Round {
-        found: false,
-        used: i,
-        to: a,
+    let start = round_start(text);
+    match start {
+        RoundStart::Literal { from } => {
+            let s = literal(&text[from..], other, out, room, a);
+            let to = s.to;
+            Round {
+                found: true,
+                used: from + s.used,
+                to,
+            }
+        }
+        RoundStart::Reference { from, to: end } => {
+            let f = find_text(sheet, &text[from..end]);
+            let x = f.from;
+            let y = f.to;
+            let to = add(other, out, room, a, &sheet[x..y]);
+            Round {
+                found: true,
+                used: end,
+                to,
+            }
+        }
+        RoundStart::Nothing { at } => Round {
+            found: false,
+            used: at,
+            to: a,
+        },
     }
 }
 

@@ -3,71 +3,61 @@ use Rattle.string_ends.proofs.round_end.Statement.{statement}
 use Rattle.string_ends.proofs.round_end.Tie as tie
 use Rattle.string_ends.proofs.round_end.Reads as reads
 use Rattle.string_ends.proofs.round_end.Lts as lts
-use Rattle.scan.proofs.at.Reads as at-reads
-use Rattle.scan.proofs.sees.Reads as sees-reads
-use Rattle.scan.proofs.span.Reads as span-reads
 use Rattle.string_ends.proofs.literal_end.Reads as literal-end-reads
-use mathlib.Core.Path.{refl}
-use Rattle.scan.specs.Laws.{sees-the}
-use Rattle.string_ends.specs.Text.{literal-round, reference-round, no-round}
+use Rattle.string_ends.proofs.round_start.Reads as round-start-reads
+use native.Mathlib.Omega.{arith}
+use lib.ListN.{length-take, length-drop}
+use Rattle.string_ends.specs.Text.{literal-inside, round-at-literal, round-at-reference, round-at-nothing}
 
-span-requires : tie.Need-span-requires
-span-requires c κs = search needs
+round-start-requires : tie.Need-round-start-requires
+round-start-requires c κs = search needs
 
-at-requires : tie.Need-at-requires
-at-requires c κs = search needs
-
-add-literal-end : tie.Need-add-literal-end
-add-literal-end c = search needs
+enum-known-start : tie.Need-enum-known-start
+enum-known-start c = search needs
 
 sub-literal-end : tie.Need-sub-literal-end
-sub-literal-end c = let h = c .before .at .ensures .there (c .if1 .taken) in search needs
+sub-literal-end c = literal-inside _ (c .before .before .before .round-start .ensures) (c .before .start .given .1)
 
 part-literal-end-start : tie.Need-part-literal-end-start
-part-literal-end-start c = let h = c .before .at .ensures .there (c .if1 .taken) in search needs
+part-literal-end-start c = let h = literal-inside _ (c .before .before .before .round-start .ensures) (c .before .start .given .1) in omega (arith, h)
 
 part-literal-end-end : tie.Need-part-literal-end-end
-part-literal-end-end c = let h = c .before .at .ensures .there (c .if1 .taken) in search needs
+part-literal-end-end c = let h = literal-inside _ (c .before .before .before .round-start .ensures) (c .before .start .given .1) in omega (arith, h)
 
 literal-end-requires : tie.Need-literal-end-requires
 literal-end-requires c κs = search needs
 
-add-t7 : tie.Need-add-t7
-add-t7 c = search needs
+add-t12 : tie.Need-add-t12
+add-t12 c = let h = literal-inside _ (c .before .before .before .before .before .round-start .ensures) (c .before .before .before .start .given .1) in omega (arith, h, simp (length-take, length-drop) at (c .literal-end .ensures .inside))
 
-add-t9 : tie.Need-add-t9
-add-t9 c = search needs
+enum-known-start-2 : tie.Need-enum-known-start-2
+enum-known-start-2 c = search needs
+
+enum-known-start-3 : tie.Need-enum-known-start-3
+enum-known-start-3 c = search needs
 
 returns : tie.Need-returns
-returns c = record { text = _; round = λ look. literal-round look (c .before .before .before .before .span .ensures) (sees-the "\"" (c .before .before .before .at .ensures) refl) (c .before .before .if1 .taken) (c .literal-end .ensures) }
-
-sees-requires : tie.Need-sees-requires
-sees-requires c κs = search needs
-
-span-requires-2 : tie.Need-span-requires-2
-span-requires-2 c κs = search needs
+returns c = record { text = _; round = λ look. round-at-literal _ (c .before .before .before .before .before .round-start .ensures) look (c .before .before .before .start .given .1) (c .literal-end .ensures) }
 
 returns-2 : tie.Need-returns-2
-returns-2 c = record { text = _; round = λ look. reference-round look (c .before .before .before .before .before .span .ensures) (sees-the "\"" (c .before .before .before .before .at .ensures) refl) (c .before .before .before .if1 .left) (c .before .before .sees .ensures) (c .before .if2 .taken) (c .span2 .ensures) }
+returns-2 c = record { text = _; round = λ look. round-at-reference _ (c .before .before .before .round-start .ensures) look (c .before .start2 .given .1) }
 
 returns-3 : tie.Need-returns-3
-returns-3 c = record { text = _; round = λ look. no-round look (c .before .before .before .before .span .ensures) (sees-the "\"" (c .before .before .before .at .ensures) refl) (c .before .before .if1 .left) (c .before .sees .ensures) (c .if2 .left) }
+returns-3 c = record { text = _; round = λ look. round-at-nothing _ (c .before .before .before .round-start .ensures) look (c .before .start3 .given .1) }
 
 pub round-end-spec : {M : Type 1} → statement M
 round-end-spec =
     tie.close
     (tie.spec
-    span-requires
-    at-requires
-    add-literal-end
+    round-start-requires
+    enum-known-start
     sub-literal-end
     part-literal-end-start
     part-literal-end-end
     literal-end-requires
-    add-t7
-    add-t9
+    add-t12
+    enum-known-start-2
+    enum-known-start-3
     returns
-    sees-requires
-    span-requires-2
     returns-2
     returns-3)
