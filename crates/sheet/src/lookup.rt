@@ -102,8 +102,11 @@ pub fn order(a: &[u8], b: &[u8], reference: bool) -> u8
             return 2;
         }
         let y = underscored_if(reference, b[i]);
-        if a[i] != y {
-            return if a[i] < y { 0 } else { 2 };
+        if a[i] < y {
+            return 0;
+        }
+        if y < a[i] {
+            return 2;
         }
         i += 1;
     }

@@ -5,7 +5,6 @@ use Rattle.sheet.proofs.lookup.order.Reads as reads
 use Rattle.sheet.proofs.lookup.order.Lts as lts
 use Rattle.sheet.proofs.lookup.underscored_if.Reads as underscored-if-reads
 use Prim.Native.Nat.{_-_}
-use native.Mathlib.Omega.{arith}
 use lib.ListN.{length}
 use Rattle.sheet.specs.Order.{underscoredIf, Ordering, ordering-start, ordering-over, ordering-under, ordering-end, ordering-less, ordering-more, ordering-on}
 
@@ -30,14 +29,14 @@ underscored-if-requires c κs = search needs
 shared-slice-read-if2 : tie.Need-shared-slice-read-if2 Inv-loop μ-loop
 shared-slice-read-if2 c = search needs
 
+returns-2 : tie.Need-returns-2 Inv-loop μ-loop
+returns-2 c = ordering-less _ _ (c .before .before .before .before .before .before .loop .inv) (search needs) (search needs) (c .before .before .underscored-if .ensures) (c .if2 .taken)
+
 shared-slice-read-if3 : tie.Need-shared-slice-read-if3 Inv-loop μ-loop
 shared-slice-read-if3 c = search needs
 
-returns-2 : tie.Need-returns-2 Inv-loop μ-loop
-returns-2 c = ordering-less _ _ (c .before .before .before .before .before .before .before .before .loop .inv) (search needs) (search needs) (c .before .before .before .before .underscored-if .ensures) (c .if3 .taken)
-
 returns-3 : tie.Need-returns-3 Inv-loop μ-loop
-returns-3 c = ordering-more _ _ (c .before .before .before .before .before .before .before .before .loop .inv) (search needs) (search needs) (c .before .before .before .before .underscored-if .ensures) (omega (arith, c .before .before .if2 .taken, c .if3 .left))
+returns-3 c = ordering-more _ _ (c .before .before .before .before .before .before .before .before .loop .inv) (search needs) (search needs) (c .before .before .before .before .underscored-if .ensures) (c .if3 .taken)
 
 add-i : tie.Need-add-i Inv-loop μ-loop
 add-i c = search needs
@@ -46,7 +45,7 @@ loop-less : tie.Need-loop-less Inv-loop μ-loop
 loop-less c = search needs
 
 loop-again : tie.Need-loop-again Inv-loop μ-loop
-loop-again c = ordering-on _ _ (c .before .before .before .before .before .before .loop .inv) (search needs) (search needs) (c .before .before .underscored-if .ensures) (search needs) (search needs)
+loop-again c = ordering-on _ _ (c .before .before .before .before .before .before .before .before .loop .inv) (search needs) (search needs) (c .before .before .before .before .underscored-if .ensures) (search needs) (search needs)
 
 returns-4 : tie.Need-returns-4 Inv-loop μ-loop
 returns-4 c = ordering-under _ _ (c .before .before .loop .inv) (search needs) (search needs)
@@ -65,8 +64,8 @@ order-spec =
     shared-slice-read-underscored-if
     underscored-if-requires
     shared-slice-read-if2
-    shared-slice-read-if3
     returns-2
+    shared-slice-read-if3
     returns-3
     add-i
     loop-less
