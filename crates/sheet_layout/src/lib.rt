@@ -11,6 +11,7 @@ ghost use Prim.Native.Nat.{_≤_};
 ghost use lib.ListN.{length, drop};
 ghost use Rattle.rules.specs.Sheet.{sheetOf};
 ghost use Rattle.rules.specs.Laws.Bool.{isSome};
+ghost use Rattle.rules.specs.Reader.{all};
 ghost use Rattle.scan.specs.Sets.{member};
 ghost use Rattle.sheet_layout.specs.Check.{body, within, keepsRules, InSheet, InLast, lastIn, Enters, EndsAt};
 
@@ -27,6 +28,17 @@ pub struct Last {
     pub to: usize,
 }
 
+// Is a name of the set's bytes? Where the set is written out, it is scanned for by a loop of its own.
+fn all_of(name: &[u8], set: Set) -> bool
+    ensures { λ r. ⌜ r ≡ all (member set) (now (name .entry)) ⌝ }
+{
+    match set {
+        Set::Word => scan::all(name, Set::Word),
+        Set::Name => scan::all(name, Set::Name),
+        _ => scan::all(name, set),
+    }
+}
+
 // Is the name of the set's bytes and behind the last one, and the text of bytes below 128?
 fn keeps_rules(s: &[u8], o: Item, set: Set, last: Last) -> bool
     requires { ⌜ InSheet (now s) o × InLast (now s) last ⌝ }
@@ -34,7 +46,7 @@ fn keeps_rules(s: &[u8], o: Item, set: Set, last: Last) -> bool
 {
     let from = o.from;
     let to = o.to;
-    if !scan::all(&s[from..to], set) {
+    if !all_of(&s[from..to], set) {
         return false;
     }
     let at = o.at;

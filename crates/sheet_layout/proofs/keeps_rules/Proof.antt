@@ -3,27 +3,27 @@ use Rattle.sheet_layout.proofs.keeps_rules.Statement.{statement}
 use Rattle.sheet_layout.proofs.keeps_rules.Tie as tie
 use Rattle.sheet_layout.proofs.keeps_rules.Reads as reads
 use Rattle.sheet_layout.proofs.keeps_rules.Lts as lts
-use Rattle.sheet.proofs.lookup.order.Reads as order-reads
-use Rattle.scan.proofs.all.Reads as all-reads
 use Rattle.scan.proofs.is_ascii.Reads as is-ascii-reads
+use Rattle.sheet.proofs.lookup.order.Reads as order-reads
+use Rattle.sheet_layout.proofs.all_of.Reads as all-of-reads
 use mathlib.Core.Path.{sym, _∙_}
 use borrow.Author.Tests.{not-true, not-false}
 use Rattle.sheet_layout.specs.Check.{fits-name, fits-text, fits-first, fits-order}
 
-sub-all : tie.Need-sub-all
-sub-all c = search needs
+sub-all-of : tie.Need-sub-all-of
+sub-all-of c = search needs
 
-part-all-start : tie.Need-part-all-start
-part-all-start c = search needs
+part-all-of-start : tie.Need-part-all-of-start
+part-all-of-start c = search needs
 
-part-all-end : tie.Need-part-all-end
-part-all-end c = search needs
+part-all-of-end : tie.Need-part-all-of-end
+part-all-of-end c = search needs
 
-all-requires : tie.Need-all-requires
-all-requires c κs = search needs
+all-of-requires : tie.Need-all-of-requires
+all-of-requires c κs = search needs
 
 returns : tie.Need-returns
-returns c = fits-name _ _ _ _ (sym (c .before .all .ensures) ∙ not-true _ (c .if1 .taken))
+returns c = fits-name _ _ _ _ (sym (c .before .all-of .ensures) ∙ not-true _ (c .if1 .taken))
 
 sub-is-ascii : tie.Need-sub-is-ascii
 sub-is-ascii c = search needs
@@ -38,10 +38,10 @@ is-ascii-requires : tie.Need-is-ascii-requires
 is-ascii-requires c κs = search needs
 
 returns-2 : tie.Need-returns-2
-returns-2 c = fits-text _ _ _ _ (sym (c .before .before .before .before .all .ensures) ∙ not-false _ (c .before .before .before .if1 .left)) (sym (c .before .is-ascii .ensures) ∙ not-true _ (c .if2 .taken))
+returns-2 c = fits-text _ _ _ _ (sym (c .before .before .before .before .all-of .ensures) ∙ not-false _ (c .before .before .before .if1 .left)) (sym (c .before .is-ascii .ensures) ∙ not-true _ (c .if2 .taken))
 
 returns-3 : tie.Need-returns-3
-returns-3 c = fits-first _ _ _ _ (sym (c .before .before .before .before .before .before .all .ensures) ∙ not-false _ (c .before .before .before .before .before .if1 .left)) (sym (c .before .before .before .is-ascii .ensures) ∙ not-false _ (c .before .before .if2 .left)) (not-true _ (c .if3 .taken))
+returns-3 c = fits-first _ _ _ _ (sym (c .before .before .before .before .before .before .all-of .ensures) ∙ not-false _ (c .before .before .before .before .before .if1 .left)) (sym (c .before .before .before .is-ascii .ensures) ∙ not-false _ (c .before .before .if2 .left)) (not-true _ (c .if3 .taken))
 
 sub-order : tie.Need-sub-order
 sub-order c = search needs
@@ -65,16 +65,16 @@ order-requires : tie.Need-order-requires
 order-requires c κs = search needs
 
 returns-4 : tie.Need-returns-4
-returns-4 c = fits-order _ _ _ _ (sym (c .before .before .before .before .before .before .before .before .before .all .ensures) ∙ not-false _ (c .before .before .before .before .before .before .before .before .if1 .left)) (sym (c .before .before .before .before .before .before .is-ascii .ensures) ∙ not-false _ (c .before .before .before .before .before .if2 .left)) (not-false _ (c .before .before .before .if3 .left)) (c .order .ensures)
+returns-4 c = fits-order _ _ _ _ (sym (c .before .before .before .before .before .before .before .before .before .all-of .ensures) ∙ not-false _ (c .before .before .before .before .before .before .before .before .if1 .left)) (sym (c .before .before .before .before .before .before .is-ascii .ensures) ∙ not-false _ (c .before .before .before .before .before .if2 .left)) (not-false _ (c .before .before .before .if3 .left)) (c .order .ensures)
 
 pub keeps-rules-spec : {M : Type 1} → statement M
 keeps-rules-spec =
     tie.close
     (tie.spec
-    sub-all
-    part-all-start
-    part-all-end
-    all-requires
+    sub-all-of
+    part-all-of-start
+    part-all-of-end
+    all-of-requires
     returns
     sub-is-ascii
     part-is-ascii-start
