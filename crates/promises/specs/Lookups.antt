@@ -1,20 +1,22 @@
 -- The one lookup (E1): what its call tells apart, and that the text it tells is what a reference stands for.
-use mathlib.Core.Path.{_≡_, refl, ap}
-use mathlib.Core.List.{List, []}
-use mathlib.Core.Bool.{Bool, true, false}
+use mathlib.Core.Path.{_≡_, refl, sym, ap}
+use mathlib.Core.List.{List, [], _∷_}
+use mathlib.Core.Bool.{Bool, true, false, true≢false}
 use mathlib.Core.Option.{Option, none, some}
 use Prim.Native.Nat.{ℕ, _<_, _≤_}
 use native.Mathlib.Nat.{sub-zero}
 use native.Mathlib.Omega.{arith}
-use lib.Dec.{leb}
+use lib.Dec.{leb, eqb}
 use lib.ListN.{length}
 use borrow.Author.Tests.{le-leb, leb-false}
 use Rattle.rules.specs.Answer.{_>>=_, _>>_, check, orRefuse}
 use Rattle.rules.specs.Reader.{ret, ifR, all, the, span, sees}
-use Rattle.rules.specs.Bytes.{ascii, letter, runByte, underscored}
-use Rattle.rules.specs.Sheet.{Value, text, nothing, dictionary, Records, sheetOf, resolve, kindOf, textOf}
+use Rattle.rules.specs.Layout.{bind}
+use Rattle.rules.specs.Bytes.{ascii, letter, digit, word, runByte, underscored, prepend, split}
+use Rattle.rules.specs.Sheet.{Value, text, nothing, dictionary, Records, sheetOf, get, getFields, getPieces, resolve, kindOf, textOf}
 use Rattle.rules.specs.Strings.{reference}
 use Rattle.rules.specs.Expansion.{writes, referenceStep}
+use Rattle.rules.specs.Laws.Bool.{and-l, and-r, not-true, true-eqb}
 use Rattle.rules.specs.Calls.{zeros, padded, Looked, lookedAnswer, resolveResult, resolveOf}
 
 module _ (sheet path : List ℕ) (n : ℕ) (s : Records) (h : sheetOf sheet ≡ some s) where
@@ -57,3 +59,21 @@ pub references-write : (s : Records) (u t : List ℕ) → let r = span runByte u
     × (sees letter u ≡ (true, u) → sees (the "(") (r .1) ≡ (false, r .1) → referenceStep (resolve s) s u ≡ (writes s t, r .1))
 unfolding reference referenceStep textOf ret ifR Rattle.rules.specs.Reader._>>=_
 references-write s u t f = (rw f refl, λ l p. rw (l, p, f) refl)
+
+-- IMPORTS: a word holds no dot, so its lookup is the value bound under it.
+no-dot : (x : ℕ) → word x ≡ true → the "." x ≡ false
+unfolding word letter digit the
+no-dot x h = not-true (eqb x 46) (λ e. let w = rw (true-eqb x 46 e) at h in absurd (true≢false (sym w)))
+
+one-piece : (w : List ℕ) → all word w ≡ true → split "." w ≡ w ∷ []
+unfolding split prepend all
+one-piece [] h = refl
+one-piece (x ∷ xs) h = rw (no-dot x (and-l (word x) (all word xs) h), one-piece xs (and-r (word x) (all word xs) h), split) refl
+
+pub words-bound : (r : Records) (w : List ℕ) → all word w ≡ true → resolve r w ≡ get r w
+unfolding resolve getPieces getFields bind
+words-bound r w h = rw (one-piece w h) (same (get r w))
+  where
+    same : (v : Option Value) → bind v (getFields []) ≡ v
+    same none = refl
+    same (some v) = refl
