@@ -16,14 +16,14 @@ use Rattle.rules.specs.Reader.{bytes, all}
 use Rattle.rules.specs.Run.{ok, put, fail, andThen, unrefused}
 use Rattle.rules.specs.Bytes.{ascii, isPath, isFolder, parent}
 use Rattle.rules.specs.Bundle.{Entry, bundleOf}
-use Rattle.rules.specs.Calls.{Setting, limit, zeros, padded, Holds, resolveResult, resolveOf, lookedAnswer, outputAnswer, findFileOf, foundAnswer, resolveIncludesResult, resolveIncludesOf, preprocessTypstResult, preprocessTypstOf, expandedAnswer, parseDefinitionsResult, parseDefinitionsOf, definedAnswer, passResult, passOf, passedAnswer, closedOf}
+use Rattle.rules.specs.Calls.{Setting, limit, zeros, padded, Holds, resolveResult, resolveOf, lookedAnswer, outputAnswer, findFileOf, foundAnswer, resolveIncludesResult, resolveIncludesOf, testLoadResult, testLoadOf, preprocessTypstResult, preprocessTypstOf, expandedAnswer, parseDefinitionsResult, parseDefinitionsOf, definedAnswer, passResult, passOf, passedAnswer, closedOf}
 use Rattle.rules.specs.Files.{View, view, fetch, opened}
 use Rattle.rules.specs.Sheet.{Records, sheetOf}
 use Rattle.rules.specs.Includes.{includeStep, insideFile}
 use Rattle.rules.specs.Expansion.{expansionStep}
 use Rattle.rules.specs.Manual.{built, shown, manual, manualOf}
 use Rattle.rules.specs.Parts.{sheetLeft}
-use Rattle.rules.specs.Laws.Calls.{refused-form, number-form, parseDefinitions-holds, parseDefinitions-work, parseDefinitions-sheet, resolve-numbered, resolveIncludes-numbered, preprocessTypst-numbered, parseDefinitions-numbered, resolve-holds, resolveIncludes-holds, preprocessTypst-holds, preprocessTypst-sheet, pass-holds, pass-middle, pass-closed, find-refused, find-known, pass-sheet}
+use Rattle.rules.specs.Laws.Calls.{refused-form, number-form, parseDefinitions-holds, parseDefinitions-work, parseDefinitions-sheet, resolve-numbered, resolveIncludes-numbered, testLoad-numbered, preprocessTypst-numbered, parseDefinitions-numbered, resolve-holds, resolveIncludes-holds, testLoad-holds, preprocessTypst-holds, preprocessTypst-sheet, pass-holds, pass-middle, pass-closed, find-refused, find-known, pass-sheet}
 use Rattle.rules.specs.Laws.Found.{found-there, found-inside}
 use Rattle.rules.specs.Laws.Manual.{manual-holds}
 use Rattle.rules.specs.Laws.Parts.{result-numbered}
@@ -42,6 +42,10 @@ resolve-refused sheet path n h = refused-form (lookedAnswer n) (λ r. r .number)
 pub resolve-includes-refused : (bundle folder text : List ℕ) (n : ℕ) → let r = resolveIncludesOf bundle folder text n in r .number ≢ 0 → r ≡ record { number = r .number; len = 0; out = zeros n }
 unfolding resolveIncludesOf outputAnswer
 resolve-includes-refused bundle folder text n h = refused-form (outputAnswer n) (λ r. r .number) (λ k. refl) (λ a. refl) (resolveIncludesResult bundle folder text n) h
+
+pub test-load-refused : (seed : ℕ) (definitions : Bool) (n : ℕ) → let r = testLoadOf seed definitions n in r .number ≢ 0 → r ≡ record { number = r .number; len = 0; out = zeros n }
+unfolding testLoadOf outputAnswer
+test-load-refused seed definitions n h = refused-form (outputAnswer n) (λ r. r .number) (λ k. refl) (λ a. refl) (testLoadResult seed definitions n) h
 
 pub preprocess-typst-refused : (bundle text sheet : List ℕ) (n l : ℕ) → let r = preprocessTypstOf bundle text sheet n l in
     r .number ≢ 0 → r ≡ record { number = r .number; len = 0; sheetLen = 0; out = zeros n; left = zeros l }
@@ -74,6 +78,9 @@ resolve-written sheet path n = resolve-holds sheet path n
 pub resolve-includes-written : (bundle folder text : List ℕ) (n : ℕ) → let r = resolveIncludesOf bundle folder text n in Holds n (r .len) (r .out)
 resolve-includes-written bundle folder text n = resolveIncludes-holds bundle folder text n
 
+pub test-load-written : (seed : ℕ) (definitions : Bool) (n : ℕ) → let r = testLoadOf seed definitions n in Holds n (r .len) (r .out)
+test-load-written seed definitions n = testLoad-holds seed definitions n
+
 pub preprocess-typst-written : (bundle text sheet : List ℕ) (n l : ℕ) → let r = preprocessTypstOf bundle text sheet n l in Holds n (r .len) (r .out) × Holds l (r .sheetLen) (r .left)
 preprocess-typst-written bundle text sheet n l = let h = preprocessTypst-holds bundle text sheet n l in (h .output, h .sheet)
 
@@ -102,14 +109,16 @@ known n = eqb n 0 || isRefusal n
 pub numbers :
     ((sheet path : List ℕ) (n : ℕ) → known (resolveOf sheet path n .number) ≡ true)
     × ((bundle folder text : List ℕ) (n : ℕ) → known (resolveIncludesOf bundle folder text n .number) ≡ true)
+    × ((seed : ℕ) (definitions : Bool) (n : ℕ) → known (testLoadOf seed definitions n .number) ≡ true)
     × ((bundle text sheet : List ℕ) (n l : ℕ) → known (preprocessTypstOf bundle text sheet n l .number) ≡ true)
     × ((bundle path : List ℕ) (l w : ℕ) → known (parseDefinitionsOf bundle path l w .number) ≡ true)
     × ((k : Setting) (sheet text : List ℕ) → known (passOf k sheet text .number) ≡ true)
     × ((bundle path : List ℕ) → known (findFileOf bundle path .number) ≡ true)
-unfolding known resolveOf lookedAnswer outputAnswer resolveIncludesOf preprocessTypstOf expandedAnswer parseDefinitionsOf definedAnswer passOf passedAnswer
+unfolding known resolveOf lookedAnswer outputAnswer resolveIncludesOf testLoadOf preprocessTypstOf expandedAnswer parseDefinitionsOf definedAnswer passOf passedAnswer
 numbers = (
   λ s p n. number-form (lookedAnswer n) (λ r. r .number) (λ k. refl) (λ a. refl) (resolveResult s p n) (resolve-numbered s p n),
   λ b g t n. number-form (outputAnswer n) (λ r. r .number) (λ k. refl) (λ a. refl) (resolveIncludesResult b g t n) (resolveIncludes-numbered b g t n),
+  λ s d n. number-form (outputAnswer n) (λ r. r .number) (λ k. refl) (λ a. refl) (testLoadResult s d n) (testLoad-numbered s d n),
   λ b t s n l. number-form (expandedAnswer n l) (λ r. r .number) (λ k. refl) (λ a. refl) (preprocessTypstResult b t s n l) (preprocessTypst-numbered b t s n l),
   λ b p l w. number-form (definedAnswer l w) (λ r. r .number) (λ k. refl) (λ a. refl) (parseDefinitionsResult b p l w) (parseDefinitions-numbered b p l w),
   λ k s t. number-form (passedAnswer k (closedOf k s t)) (λ r. r .number) (λ n. refl) (λ a. refl) (passResult k s t) (result-numbered k s t),

@@ -15,6 +15,7 @@ use Rattle.rules.specs.Files.{entryAt, isFolderOf, view, fetch}
 use Rattle.rules.specs.Sheet.{Value, Records, encode, sheetLength, sheetOf, resolve, kindOf, textOf}
 use Rattle.rules.specs.Pass.{middleText, expanded, passed, closed}
 use Rattle.rules.specs.Imports.{definitions}
+use Rattle.rules.specs.Load.{load, listOf}
 
 -- L: the sheet buffer's length; a longer one counts as 65,535. A sheet has one form only, so `sheetLength` of a given sheet's
 -- records is the length of its bytes.
@@ -101,6 +102,15 @@ resolveIncludesResult bundle folder text n = do
 
 unfoldable pub resolveIncludesOf : List ℕ → List ℕ → List ℕ → ℕ → Output
 resolveIncludesOf bundle folder text n = outputAnswer n (resolveIncludesResult bundle folder text n)
+
+-- TEST LOAD (E2): the load of a seed, from the list of definition pieces or from that of document pieces; a short output is 11.
+unfoldable pub testLoadResult : ℕ → Bool → ℕ → Answer (List ℕ)
+testLoadResult seed definitions n = do
+  check 11 (leb (length (load (listOf definitions) seed)) n)
+  accepted (load (listOf definitions) seed)
+
+unfoldable pub testLoadOf : ℕ → Bool → ℕ → Output
+testLoadOf seed definitions n = outputAnswer n (testLoadResult seed definitions n)
 
 -- An expansion's answer, with the output and the sheet that is left in buffers of n and l bytes.
 pub record Expanded : Type 0 where

@@ -23,3 +23,4 @@ pub mod Parts
 pub mod Calls
 pub mod Found
 pub mod Manual
+pub mod Load

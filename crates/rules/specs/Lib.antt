@@ -12,6 +12,7 @@ pub mod Expansion
 pub mod Pass
 pub mod Definitions
 pub mod Imports
+pub mod Load
 pub mod Calls
 pub mod Parts
 pub mod Manual

@@ -19,7 +19,8 @@ use Rattle.rules.specs.Sheet.{Value, Records, encode, sheetLength, sheet
 use Rattle.rules.specs.Includes.{includes}
 use Rattle.rules.specs.Expansion.{expansion}
 use Rattle.rules.specs.Pass.{middleText, expanded, passed, closed}
-use Rattle.rules.specs.Calls.{Setting, limit, zeros, padded, Holds, Found, foundAnswer, findFileResult, findFileOf, outputAnswer, lookedAnswer, resolveResult, resolveOf, resolveIncludesResult, resolveIncludesOf, expandedAnswer, preprocessTypstResult, preprocessTypstOf, definedAnswer, parseDefinitionsResult, parseDefinitionsOf, passedAnswer, closedOf, passResult, passOf}
+use Rattle.rules.specs.Calls.{Setting, limit, zeros, padded, Holds, Found, foundAnswer, findFileResult, findFileOf, outputAnswer, lookedAnswer, resolveResult, resolveOf, resolveIncludesResult, resolveIncludesOf, testLoadResult, testLoadOf, expandedAnswer, preprocessTypstResult, preprocessTypstOf, definedAnswer, parseDefinitionsResult, parseDefinitionsOf, passedAnswer, closedOf, passResult, passOf}
+use Rattle.rules.specs.Load.{load, listOf}
 use Rattle.rules.specs.Parts.{sheetLeft}
 use Rattle.rules.specs.Laws.Bool.{or-i-r, true-leb}
 use Rattle.rules.specs.Laws.Answer.{accepted-same, check-inv, bind-inv, orRefuse-inv}
@@ -140,6 +141,18 @@ pub resolveIncludes-holds : (bundle folder text : List ℕ) (n : ℕ) → Holds 
 unfolding resolveIncludesOf
 resolveIncludes-holds bundle folder text n = holds-output n (resolveIncludesResult bundle folder text n) (resolveIncludes-fits bundle folder text n)
 
+-- TEST LOAD.
+testLoad-fits : (seed : ℕ) (definitions : Bool) (n : ℕ) (o : List ℕ) → testLoadResult seed definitions n ≡ accepted o → length o ≤ n
+unfolding testLoadResult
+testLoad-fits seed definitions n o q =
+    let t = load (listOf definitions) seed in
+    let i = check-inv 11 (leb (length t) n) (accepted t) q in
+    omega (arith, true-leb (length t) n (i .0), ap length (accepted-same (i .1)))
+
+pub testLoad-holds : (seed : ℕ) (definitions : Bool) (n : ℕ) → Holds n (testLoadOf seed definitions n .len) (testLoadOf seed definitions n .out)
+unfolding testLoadOf
+testLoad-holds seed definitions n = holds-output n (testLoadResult seed definitions n) (testLoad-fits seed definitions n)
+
 -- EXPANSION. An accepted one: its output fits, and the sheet left keeps the layout and L.
 expanded-fits : (v : View) (L n : ℕ) (s : Records) (t : List ℕ) (y : List ℕ × Records) → expanded v L n s t ≡ accepted y → length (y .0) ≤ n
 unfolding expanded
@@ -219,6 +232,10 @@ parseDefinitions-sheet bundle path l w h =
 pub resolve-numbered : (sheet path : List ℕ) (n : ℕ) → numbered (resolveResult sheet path n) ≡ true
 unfolding resolveResult isRefusal
 resolve-numbered sheet path n = search (numbered-bind, numbered-then, numbered-check, numbered-orRefuse, numbered-accepted) depth 12
+
+pub testLoad-numbered : (seed : ℕ) (definitions : Bool) (n : ℕ) → numbered (testLoadResult seed definitions n) ≡ true
+unfolding testLoadResult isRefusal
+testLoad-numbered seed definitions n = search (numbered-then, numbered-check, numbered-accepted) depth 6
 
 pub resolveIncludes-numbered : (bundle folder text : List ℕ) (n : ℕ) → numbered (resolveIncludesResult bundle folder text n) ≡ true
 unfolding resolveIncludesResult middleText isRefusal
