@@ -19,7 +19,7 @@ class Manual(unittest.TestCase):
         self.folder = os.path.join(self.root, 'folder')
         os.makedirs(os.path.join(self.root, 'tools'))
         os.makedirs(os.path.join(self.root, 'bin'))
-        for name in ('pack', 'manual'):
+        for name in ('pack', 'programs.py', 'manual'):
             shutil.copy(os.path.join(TOOLS, name), os.path.join(self.root, 'tools', name))
         self.put('folder/main.typ', 'ten\n')
 

@@ -1,14 +1,17 @@
 -- The calls whose results stand at the starts of their buffers, once those are cleared behind them.
 use mathlib.Core.Path.{_≡_, sym, ap, _∙_}
+use mathlib.Core.Bool.{Bool}
 use mathlib.Core.List.{List}
 use Prim.Native.Nat.{ℕ}
 use native.Mathlib.Nat.{sub-zero}
 use lib.ListN.{length, take}
 use Rattle.rules.specs.Answer.{Answer}
 use Rattle.rules.specs.Sheet.{Records}
-use Rattle.rules.specs.Calls.{zeros, padded, resolveOf, resolveIncludesOf, preprocessTypstOf, definedAnswer, passOf}
+use Rattle.rules.specs.Calls.{zeros, padded, resolveOf, resolveIncludesOf, testLoadOf, preprocessTypstOf, definedAnswer, passOf}
 use Rattle.lookups.specs.declared.Resolved.{Resolved}
 use Rattle.lookups.specs.Text.{Resolves}
+use Rattle.test_load.specs.declared.Outcome.{Outcome as Load}
+use Rattle.test_load.specs.Load.{Loads}
 use Rattle.runs.specs.declared.Outcome.{Outcome}
 use Rattle.runs.specs.Includes.{ResolvesText}
 use Rattle.runs.specs.Expansion.{ExpandsText}
@@ -31,6 +34,9 @@ lookup-cleared {o₂ = o₂} {r = r} p x = p .is ∙ λ i. record { number = r .
 pub includes-cleared : {b g t o o₂ o₃ : List ℕ} {r : Outcome} → ResolvesText b g t o o₂ r → o₃ ≡ padded (length o₂) (take (r .len) o₂) →
     resolveIncludesOf b g t (length o) ≡ record { number = r .number; len = r .len; out = o₃ }
 includes-cleared {o₂ = o₂} {r = r} p x = p .is ∙ λ i. record { number = r .number; len = r .len; out = behind o₂ (r .len) (p .size) x i }
+
+pub load-cleared : {s : ℕ} {d : Bool} {o o₂ o₃ : List ℕ} {r : Load} → Loads s d o o₂ r → o₃ ≡ padded (length o₂) (take (r .len) o₂) → testLoadOf s d (length o) ≡ record { number = r .number; len = r .len; out = o₃ }
+load-cleared {o₂ = o₂} {r = r} p x = p .is ∙ λ i. record { number = r .number; len = r .len; out = behind o₂ (r .len) (p .size) x i }
 
 pub expansion-cleared : {b t z o o₂ o₃ l l₂ l₃ : List ℕ} {r : Outcome} → ExpandsText b t z o o₂ l l₂ r → o₃ ≡ padded (length o₂) (take (r .len) o₂) → l₃ ≡ padded (length l₂) (take (r .sheet) l₂) →
     preprocessTypstOf b t z (length o) (length l) ≡ record { number = r .number; len = r .len; sheetLen = r .sheet; out = o₃; left = l₃ }

@@ -2,7 +2,7 @@
 // the answer, and the whole contents of every writable buffer, accepted and refused alike.
 ghost use mathlib.Core.Path.{_≡_};
 ghost use lib.ListN.{length};
-ghost use Rattle.rules.specs.Calls.{resolveOf, resolveIncludesOf, preprocessTypstOf, parseDefinitionsOf, passOf, findFileOf};
+ghost use Rattle.rules.specs.Calls.{resolveOf, resolveIncludesOf, testLoadOf, preprocessTypstOf, parseDefinitionsOf, passOf, findFileOf};
 
 // A lookup's answer. Kind: 0 missing, 1 none, 2 text, 3 dictionary. Of a text, its length in the output buffer; else 0.
 #[repr(C)]
@@ -37,6 +37,18 @@ pub fn resolve_includes(bundle: &[u8], folder: &[u8], text: &[u8], out: &mut [u8
     ensures { λ r. ⌜ resolveIncludesOf (now (bundle .entry)) (now (folder .entry)) (now (text .entry)) (length (now (out .entry))) ≡ record { number = r .number; len = r .len; out = now (out .exit) } ⌝ }
 {
     let t = runs::include_call::resolve_includes(bundle, folder, text, out);
+    buffers::clear_from(out, t.len);
+    Text {
+        number: t.number,
+        len: t.len,
+    }
+}
+
+// The load that both suppliers make of a seed, from the list of definition pieces or from that of document pieces: 11 (E2).
+pub fn test_load(seed: u32, definitions: bool, out: &mut [u8]) -> Text
+    ensures { λ r. ⌜ testLoadOf seed definitions (length (now (out .entry))) ≡ record { number = r .number; len = r .len; out = now (out .exit) } ⌝ }
+{
+    let t = test_load::test_load(seed, definitions, out);
     buffers::clear_from(out, t.len);
     Text {
         number: t.number,

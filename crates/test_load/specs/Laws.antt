@@ -1,6 +1,6 @@
 -- Laws of the test load's code: a product of two numbers of 32 bits, a list's pieces in its text, and the loop that puts them.
-use mathlib.Core.Path.{_≡_, refl, sym, ap, subst, _∙_}
-use mathlib.Core.Bool.{Bool, true, false, _&&_}
+use mathlib.Core.Path.{_≡_, refl, sym, subst, _∙_}
+use mathlib.Core.Bool.{Bool, true}
 use mathlib.Core.List.{List, [], _∷_, _++_, append-nil, append-assoc}
 use Prim.Native.Nat.{ℕ, zero, suc, _+_, _-_, _*_, _^_, _≤_, _<_}
 use native.Mathlib.Omega.{arith}
@@ -8,7 +8,6 @@ use native.Mathlib.Nat.{mul-le-mul, sub-zero}
 use native.Mathlib.Numerals.{add-one}
 use lib.Dec.{leb}
 use lib.ListN.{length, getD, take}
-use lib.Seq.{sets}
 use borrow.Author.Tests.{le-leb, lt-leb}
 use Rattle.rules.specs.Answer.{check, _>>_}
 use Rattle.rules.specs.Load.{next, draw, pieceCount, concat, piecesFrom, pieces, load, listOf}
@@ -17,7 +16,6 @@ use Rattle.rules.specs.Laws.Bool.{and-l, and-r, true-leb}
 use Rattle.scan.specs.Sets.{part}
 use Rattle.buffers.specs.Put.{Writer, Put}
 use Rattle.buffers.specs.Laws.{put-none, put-writer, put-length, put-then, put-fits, put-not, stored-first}
-use Rattle.test_load.specs.declared.Outcome.{Outcome}
 use Rattle.test_load.specs.Load.{cut, within, Loads}
 
 -- NUMBERS.

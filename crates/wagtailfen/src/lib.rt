@@ -2,7 +2,7 @@
 // returned by value.
 ghost use mathlib.Core.Path.{_≡_};
 ghost use lib.ListN.{length};
-ghost use Rattle.rules.specs.Calls.{resolveOf, resolveIncludesOf, preprocessTypstOf, findFileOf, parseDefinitionsOf, passOf};
+ghost use Rattle.rules.specs.Calls.{resolveOf, resolveIncludesOf, testLoadOf, preprocessTypstOf, findFileOf, parseDefinitionsOf, passOf};
 
 #[no_mangle]
 pub extern "C" fn wf_resolve(sheet: &[u8], path: &[u8], out: &mut [u8]) -> builder::Resolved
@@ -21,6 +21,13 @@ pub extern "C" fn wf_resolve_includes(
     ensures { λ r. ⌜ resolveIncludesOf (now (bundle .entry)) (now (folder .entry)) (now (text .entry)) (length (now (out .entry))) ≡ record { number = r .number; len = r .len; out = now (out .exit) } ⌝ }
 {
     builder::resolve_includes(bundle, folder, text, out)
+}
+
+#[no_mangle]
+pub extern "C" fn wf_test_load(seed: u32, definitions: bool, out: &mut [u8]) -> builder::Text
+    ensures { λ r. ⌜ testLoadOf seed definitions (length (now (out .entry))) ≡ record { number = r .number; len = r .len; out = now (out .exit) } ⌝ }
+{
+    builder::test_load(seed, definitions, out)
 }
 
 #[no_mangle]

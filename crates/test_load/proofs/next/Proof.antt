@@ -17,7 +17,7 @@ wrapping-add-u32-requires c κs = search needs
 
 returns : tie.Need-returns
 unfolding wrap next
-returns c = search needs
+returns c = c .wrapping-add-u32 .ensures ∙ ap (λ x. (x + 1013904223) % 2 ^ 32) (c .before .wrapping-mul-u32 .ensures)
 
 pub next-spec : {M : Type 1} → statement M
 next-spec = tie.close (tie.spec wrapping-mul-u32-requires wrapping-add-u32-requires returns)
