@@ -7,7 +7,7 @@
 //! - `preprocess_typst_below`, `parse_definitions_below`: likewise.
 //! - `lookup`, `includes`, `expansion` and `definitions`: what 01 adds to the lookups, `resolve_includes`, `preprocess_typst` and
 //!   `parse_definitions`: which calls are accepted, and the numbers of the others. `pass`: includes and expansion in a pass, and whether a
-//!   text is closed.
+//!   text is closed. `load`: the test load of 02, of which the reference has nothing.
 //! - `sheet` and `bundle`: bytes to trees and files, and back. `bundle::find` finds by path.
 //! - `layout`: the rules of 01 for bytes.
 
@@ -18,6 +18,7 @@ pub mod definitions;
 pub mod expansion;
 pub mod includes;
 pub mod layout;
+pub mod load;
 pub mod lookup;
 pub mod pass;
 mod reader;
