@@ -199,6 +199,16 @@ pub fn pass(
     }
 }
 
+/// No test load is longer, whatever its seed and list: an output of so many bytes is never too short.
+pub const LONGEST_LOAD: usize = 448;
+
+/// Writes the test load of `seed` (document 02, E2) to the start of `out`, and 0 behind it: pieces drawn from the list of definition pieces
+/// where `definitions` is true, else from that of document pieces.
+pub fn test_load(seed: u32, definitions: bool, out: &mut [u8]) -> Text {
+    // SAFETY: `out` can be written for its length, and its pointer is not null.
+    unsafe { raw::wf_test_load(seed, definitions, out.as_mut_ptr(), out.len()) }
+}
+
 /// What a number says (document 01, section 8).
 pub fn refusal(number: u8) -> &'static str {
     match number {
@@ -351,6 +361,28 @@ mod tests {
         let wide = |number| Passed { number, len: 0, sheet_len: 0, closed: false };
         assert_eq!(pass(b"", b"/", b"", b"\x10", &mut [], &mut [], &mut []), wide(2));
         assert_eq!(pass(bundle, b"/", b"", b"\x10", &mut [], &mut [], &mut []), wide(3));
+    }
+
+    #[test]
+    fn loads() {
+        let mut out = [0xAA; LONGEST_LOAD];
+        let mut call = |seed, definitions, n: usize| {
+            out.fill(0xAA);
+            let Text { number, len } = test_load(seed, definitions, &mut out[..n]);
+            let (text, behind) = out[..n].split_at(len);
+            let zero = behind.iter().all(|&c| c == 0) && out[n..].iter().all(|&c| c == 0xAA);
+            (number, String::from_utf8(text.to_vec()).unwrap(), zero)
+        };
+        let refused = (11, String::new(), true);
+        let document = "#x\n#x.#raw(x)  #x.#let y = x\n#x #x.#link(\"u\")[t] #raw(x) ";
+        assert_eq!(call(0, false, document.len()), (0, document.into(), true));
+        assert_eq!(call(0, false, LONGEST_LOAD), (0, document.into(), true));
+        assert_eq!(call(0, false, document.len() - 1), refused);
+        assert_eq!(call(0, true, 0), refused);
+        let (number, definitions, zero) = call(0, true, 75);
+        assert_eq!((number, definitions.len(), zero), (0, 74, true));
+        assert_eq!(call(0, true, 73), refused);
+        assert_eq!(call(u32::MAX, false, 111).1.len(), 111);
     }
 
     #[test]

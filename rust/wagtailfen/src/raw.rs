@@ -105,4 +105,11 @@ unsafe extern "C" {
         left: *mut u8,
         left_len: usize,
     ) -> Passed;
+
+    /// `struct wf_text wf_test_load(..)`
+    ///
+    /// # Safety
+    ///
+    /// `out` is a slice that is written, as the module says.
+    pub fn wf_test_load(seed: u32, definitions: bool, out: *mut u8, out_len: usize) -> Text;
 }
