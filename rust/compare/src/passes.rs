@@ -158,8 +158,7 @@ mod tests {
                 let folder = group.folder(&mut rng);
                 let text = group.text(&folder, &mut rng);
                 let whole = answer(files, &folder, &text, tree, Rooms::WIDE);
-                let needed = Rooms { middle: whole.middle, out: whole.written, left: whole.longest };
-                let here = answer(files, &folder, &text, tree, rooms(needed, &mut rng));
+                let here = answer(files, &folder, &text, tree, rooms(whole.needed(), &mut rng));
                 numbers[usize::from(here.result.as_ref().err().copied().unwrap_or(0))] += 1;
                 if let Ok(passed) = here.result {
                     closed += usize::from(passed.closed);

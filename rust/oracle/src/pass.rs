@@ -19,6 +19,13 @@ pub struct Answer {
     pub expansion: expansion::Seen,
 }
 
+impl Answer {
+    /// The lengths of the buffers that just suffice, or that suffice up to the refusal, where this is the answer for `Rooms::WIDE`.
+    pub fn needed(&self) -> Rooms {
+        Rooms { middle: self.middle, out: self.written, left: self.longest }
+    }
+}
+
 #[derive(Clone, Debug, PartialEq, Eq)]
 pub struct Passed {
     pub out: Vec<u8>,

@@ -48,8 +48,7 @@ pub fn wanted(case: &Case) -> Result<Done, u8> {
 
 /// The lengths of the buffers that just suffice, or that suffice up to the refusal.
 pub fn enough(bundle: &[u8], folder: &[u8], text: &[u8], sheet: &[u8]) -> Rooms {
-    let whole = answer(files_of(bundle).as_ref(), folder, text, tree_of(sheet).as_ref(), Rooms::WIDE);
-    Rooms { middle: whole.middle, out: whole.written, left: whole.longest }
+    answer(files_of(bundle).as_ref(), folder, text, tree_of(sheet).as_ref(), Rooms::WIDE).needed()
 }
 
 pub fn record(case: &Case, wanted: &Result<Done, u8>) -> Record {

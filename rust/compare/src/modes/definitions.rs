@@ -20,8 +20,14 @@ const USES: usize = 40;
 pub struct Definitions {
     group: Option<Group>,
     uses: usize,
-    disk: Option<Disk>,
+    known: Known,
     tally: Tally,
+}
+
+/// What is kept from one call of the reference to the next.
+#[derive(Default)]
+pub struct Known {
+    disk: Option<Disk>,
 }
 
 /// The files that were unpacked last. From one case to the next few of them differ.
@@ -55,21 +61,9 @@ impl Mode for Definitions {
     fn run(&mut self, case: &Case) -> Result<&'static str, String> {
         let (bundle, path) = (case.bytes(0), case.bytes(1));
         let files = files_of(bundle);
-        let wanted = answer(files.as_ref(), path, case.len(0), case.len(1));
-        let number = wanted.result.as_ref().err().copied().unwrap_or(0);
-        let tree = match &wanted.result {
-            Ok(by_01) => self.reference(files.as_ref(), path, by_01)?,
-            Err(5) => self.reference_fails(files.as_ref(), path)?,
-            Err(_) => Tree::new(),
-        };
-        let sheet = sheet::encode(&tree).ok_or("this driver: bindings that fit no sheet")?;
-        let (mut left, mut work) = (Buffer::new(case.len(0)), Buffer::new(case.len(1)));
-        let here = parse_definitions(bundle, path, left.inside(), work.inside());
-        same("parse_definitions", here, Defined { number, sheet_len: sheet.len() })?;
-        left.check("parse_definitions: left", &sheet)?;
-        work.check("parse_definitions: work", b"")?;
-        same("the sheet", sheet::decode(&left.inside()[..here.sheet_len]), Some(tree))?;
+        let wanted = self.known.compared(bundle, files.as_ref(), path, case.len(0), case.len(1))?;
         self.tally.count(&wanted);
+        let number = wanted.result.as_ref().err().copied().unwrap_or(0);
         let there = files.is_some_and(|files| files.contains_key(path));
         Ok(label(number, is_path(path), there, &wanted.seen))
     }
@@ -87,6 +81,35 @@ impl Definitions {
         }
         self.uses -= 1;
         self.group.as_ref().expect("a group").files(rng)
+    }
+}
+
+impl Known {
+    /// A call with buffers of these lengths, held against the reference and against 01, whose answer it gives. `files` is None for a bundle
+    /// that breaks its layout.
+    pub fn compared(
+        &mut self,
+        bundle: &[u8],
+        files: Option<&Files>,
+        path: &[u8],
+        left_len: usize,
+        work_len: usize,
+    ) -> Result<Answer, String> {
+        let wanted = answer(files, path, left_len, work_len);
+        let number = wanted.result.as_ref().err().copied().unwrap_or(0);
+        let tree = match &wanted.result {
+            Ok(by_01) => self.reference(files, path, by_01)?,
+            Err(5) => self.reference_fails(files, path)?,
+            Err(_) => Tree::new(),
+        };
+        let sheet = sheet::encode(&tree).ok_or("this driver: bindings that fit no sheet")?;
+        let (mut left, mut work) = (Buffer::new(left_len), Buffer::new(work_len));
+        let here = parse_definitions(bundle, path, left.inside(), work.inside());
+        same("parse_definitions", here, Defined { number, sheet_len: sheet.len() })?;
+        left.check("parse_definitions: left", &sheet)?;
+        work.check("parse_definitions: work", b"")?;
+        same("the sheet", sheet::decode(&left.inside()[..here.sheet_len]), Some(tree))?;
+        Ok(wanted)
     }
 
     /// The reference's bindings for a call that 01 accepts. They must be 01's.

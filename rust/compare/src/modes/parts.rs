@@ -46,8 +46,7 @@ impl Mode for Parts {
         let (text, cuts) =
             if rng.one_in(5) { cut_text(group, &folder, rng) } else { joined_parts(group, known, &folder, rng) };
         let whole = answer(known.files.as_ref(), &folder, &text, known.tree.as_ref(), Rooms::WIDE);
-        let enough = Rooms { middle: whole.middle, out: whole.written, left: whole.longest };
-        let mut rooms = rooms(enough, rng);
+        let mut rooms = rooms(whole.needed(), rng);
         if rng.one_in(INSIDE)
             && let Some(out) = known.room_inside(&folder, &text, rng)
         {

@@ -59,8 +59,7 @@ impl Mode for Pass {
             _ => sheet.clone(),
         };
         let known = self.known.with(&bundle, &sheet);
-        let whole = answer(known.files.as_ref(), &folder, &text, known.tree.as_ref(), Rooms::WIDE);
-        let mut rooms = rooms(Rooms { middle: whole.middle, out: whole.written, left: whole.longest }, rng);
+        let mut rooms = rooms(known.answer(&folder, &text, Rooms::WIDE).needed(), rng);
         if rng.one_in(INSIDE)
             && let Some(out) = known.room_inside(&folder, &text, rng)
         {
@@ -71,16 +70,7 @@ impl Mode for Pass {
 
     fn run(&mut self, case: &Case) -> Result<&'static str, String> {
         let (bundle, folder, text, sheet) = (case.bytes(0), case.bytes(1), case.bytes(2), case.bytes(3));
-        let known = self.known.with(bundle, sheet);
-        let rooms = rooms_of(case);
-        let wanted = answer(known.files.as_ref(), folder, text, known.tree.as_ref(), rooms);
-        match &wanted.result {
-            Ok(passed) => known.held_to_the_reference(folder, text, passed)?,
-            Err(5) => known.reference_fails(folder, text)?,
-            Err(_) => {}
-        }
-        let here = call("pass", bundle, folder, text, sheet, rooms)?;
-        here.same_as("pass", &wanted)?;
+        let wanted = self.known.with(bundle, sheet).compared(folder, text, rooms_of(case))?;
         self.tally.count(&wanted);
         Ok(label(&wanted, folder, text, sheet))
     }
@@ -177,7 +167,24 @@ impl Known {
     /// The length of an output buffer that ends inside of a call's output.
     pub fn room_inside(&self, folder: &[u8], text: &[u8], rng: &mut Rng) -> Option<usize> {
         let start = through_a_call(text, rng)?;
-        Some(inside(answer(self.files.as_ref(), folder, start, self.tree.as_ref(), Rooms::WIDE).written, rng))
+        Some(inside(self.answer(folder, start, Rooms::WIDE).written, rng))
+    }
+
+    /// What 01 says of a pass from this bundle and sheet.
+    pub fn answer(&self, folder: &[u8], text: &[u8], rooms: Rooms) -> Answer {
+        answer(self.files.as_ref(), folder, text, self.tree.as_ref(), rooms)
+    }
+
+    /// Such a pass, held against the reference and against 01, whose answer it gives.
+    pub fn compared(&mut self, folder: &[u8], text: &[u8], rooms: Rooms) -> Result<Answer, String> {
+        let wanted = self.answer(folder, text, rooms);
+        match &wanted.result {
+            Ok(passed) => self.held_to_the_reference(folder, text, passed)?,
+            Err(5) => self.reference_fails(folder, text)?,
+            Err(_) => {}
+        }
+        call("pass", &self.bundle, folder, text, &self.sheet, rooms)?.same_as("pass", &wanted)?;
+        Ok(wanted)
     }
 
     /// The reference's answer for a call that 01 accepts must be 01's.
