@@ -8,6 +8,7 @@ mod definitions;
 mod expansion;
 mod files;
 mod includes;
+mod loads;
 mod lookup;
 mod parts;
 mod pass;
@@ -45,6 +46,7 @@ pub fn all() -> Vec<Box<dyn Mode>> {
         Box::new(definitions::Definitions::default()),
         Box::new(pass::Pass::default()),
         Box::new(parts::Parts::default()),
+        Box::new(loads::Loads::default()),
     ]
 }
 
