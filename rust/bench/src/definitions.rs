@@ -1,6 +1,7 @@
 //! The definitions call: files of bindings, of dictionaries, of imports, and of text that binds nothing.
 use crate::place;
 use crate::timing::times;
+use oracle::load::next;
 use oracle::{Files, Unpacked, bundle, parse_definitions_below, sheet};
 use std::hint::black_box;
 use wagtailfen::{parse_definitions, work_needed};
@@ -61,7 +62,7 @@ fn shuffled(order: &[usize]) -> Vec<usize> {
     let mut order = order.to_vec();
     let mut state: u32 = 1;
     for i in (1..order.len()).rev() {
-        state = state.wrapping_mul(1_664_525).wrapping_add(1_013_904_223);
+        state = next(state);
         order.swap(i, (state >> 8) as usize % (i + 1));
     }
     order

@@ -1,10 +1,11 @@
 //! Times the proved calls on the same inputs as the Rust reference, or alone where it has no such call.
 //!
-//!     bench [NAME]        one table alone: lookups, files, includes, expansion, definitions, pass
+//!     bench [NAME]        one table alone: lookups, files, includes, expansion, definitions, pass, loads
 
 mod definitions;
 mod expansion;
 mod includes;
+mod loads;
 mod pass;
 mod timing;
 
@@ -26,13 +27,14 @@ Rust    for a text the reference's `resolve_string`, which answers a new String;
         built once, outside of the timed loop, and it checks nothing
 The output here is one lent buffer of 64 bytes, cleared by the call alone.";
 
-const TABLES: [(&str, fn()); 6] = [
+const TABLES: [(&str, fn()); 7] = [
     ("lookups", lookup_table),
     ("files", file_table),
     ("includes", includes::table),
     ("expansion", expansion::table),
     ("definitions", definitions::table),
     ("pass", pass::table),
+    ("loads", loads::table),
 ];
 
 fn main() {
