@@ -1,9 +1,10 @@
 //! The lines with given answers. For 01 a JSON object each: taken are the include calls; for the expansion call the passes over texts that
-//! include nothing; the definitions calls; and the passes. For 02 `REQUEST | WHAT -> ANSWER`: taken are the lookups, request E1. The given
-//! answer is written, and must be the one that the oracle has.
+//! include nothing; the definitions calls; and the passes. For 02 `REQUEST | WHAT -> ANSWER`: taken are the lookups, request E1, and the test
+//! loads, request E2. The given answer is written, and must be the one that the oracle has.
 use crate::record::Record;
-use crate::{definitions, expansion, includes, lookups, pass};
+use crate::{definitions, expansion, includes, loads, lookups, pass};
 use oracle::definitions::work_needed;
+use oracle::load::{LONGEST, pieces};
 use oracle::lookup::{KINDS, Looked};
 use oracle::pass::Rooms;
 use oracle::{Tree, Value, sheet};
@@ -14,10 +15,21 @@ const MORE: usize = 5;
 const ENOUGH: usize = 64;
 
 pub fn lookups(path: &str) -> io::Result<Vec<Record>> {
+    of_request("E1", path, lookup_case)
+}
+
+pub fn loads(path: &str) -> io::Result<Vec<Record>> {
+    of_request("E2", path, load_case)
+}
+
+/// The lines of a request of 02: `WHAT -> ANSWER`.
+fn of_request(request: &str, path: &str, record: fn(&str, &str) -> Record) -> io::Result<Vec<Record>> {
     let lines = fs::read_to_string(path)?;
-    let lookups: Vec<Record> = lines.lines().filter_map(|line| line.strip_prefix("E1 | ")).map(lookup_case).collect();
-    assert!(!lookups.is_empty(), "{path}: no line of E1");
-    Ok(lookups)
+    let of_it = lines.lines().filter_map(|line| line.strip_prefix(request)?.strip_prefix(" | "));
+    let parted = of_it.map(|line| line.trim_end().split_once(" -> ").expect("an answer"));
+    let records: Vec<Record> = parted.map(|(what, given)| record(what, given)).collect();
+    assert!(!records.is_empty(), "{path}: no line of {request}");
+    Ok(records)
 }
 
 pub fn includes(path: &str) -> io::Result<Vec<Record>> {
@@ -43,8 +55,7 @@ pub fn passes(path: &str) -> io::Result<Vec<Record>> {
 }
 
 /// `b'PATH' -> ('KIND', b'TEXT')`, or a case in words with its number. The sheet is told by the answers: d.a is the text A, n is none, x is empty.
-fn lookup_case(line: &str) -> Record {
-    let (what, given) = line.trim_end().split_once(" -> ").expect("an answer");
+fn lookup_case(what: &str, given: &str) -> Record {
     let text = |t: &str| Value::Text(t.into());
     let inner = Tree::from([(b"a".to_vec(), text("A"))]);
     let mut tree = Tree::from([
@@ -69,11 +80,34 @@ fn lookup_case(line: &str) -> Record {
     match given.strip_prefix("('").and_then(|rest| rest.strip_suffix(')')?.split_once("', ")) {
         Some((kind, text)) => {
             let kind = KINDS.iter().position(|k| *k == kind).expect("a kind") as u8;
-            assert_eq!(wanted, Ok(Looked { kind, text: quoted(text).into() }), "{line}");
+            assert_eq!(wanted, Ok(Looked { kind, text: quoted(text).into() }), "{what}");
         }
-        None => assert_eq!(wanted.as_ref().err().copied().unwrap_or(0).to_string(), given, "{line}"),
+        None => assert_eq!(wanted.as_ref().err().copied().unwrap_or(0).to_string(), given, "{what}"),
     }
     lookups::record(&case, &wanted)
+}
+
+/// `seed SEED LIST`, and more in words. The answer: how many pieces there are and the text, `(COUNT, b'TEXT')`; the length of the text; or, for an
+/// output of so many bytes, ` into ROOM`, the number.
+fn load_case(what: &str, given: &str) -> Record {
+    let words: Vec<&str> = what.split([' ', ',']).collect();
+    let seed = match words[1] {
+        "2^32-1" => u32::MAX,
+        seed => seed.parse().expect("a seed"),
+    };
+    let room = what.split_once(" into ").map_or(LONGEST, |(_, room)| room.parse().expect("a length"));
+    let case = loads::Case { seed, definitions: words[2] == "definitions", room };
+    let wanted = loads::wanted(&case);
+    let here = match &wanted {
+        Ok(text) if given.starts_with('(') => {
+            let text = String::from_utf8_lossy(text).replace('\n', "\\n");
+            format!("({}, b'{text}')", pieces(seed).len())
+        }
+        Ok(text) => text.len().to_string(),
+        Err(number) => number.to_string(),
+    };
+    assert_eq!(here, given, "{what}");
+    loads::record(&case, &wanted)
 }
 
 /// What stands between `b'` and `'`, where nothing is escaped.

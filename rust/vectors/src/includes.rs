@@ -1,5 +1,5 @@
 //! Cases of `resolve_includes`. The texts are the Rust reference's; the numbers are 01's, as the oracle reads it.
-use crate::record::{INCLUDE, LONGEST_ROOM, Record, answer_field};
+use crate::record::{INCLUDE, LONGEST_ROOM, Record, text_field};
 use oracle::includes::{answer, files_of};
 use oracle::{Files, bundle, resolve_includes};
 
@@ -30,12 +30,7 @@ fn utf8(bytes: &[u8]) -> &str {
 
 pub fn record(case: &Case, wanted: &Result<Vec<u8>, u8>) -> Record {
     assert!(case.room <= LONGEST_ROOM);
-    let (number, text): (u8, &[u8]) = match wanted {
-        Ok(text) => (0, text),
-        Err(number) => (*number, b""),
-    };
-    let answer = answer_field(number, case.room, text);
-    Record::new(INCLUDE, &[&case.bundle, &case.folder, &case.text, &answer])
+    Record::new(INCLUDE, &[&case.bundle, &case.folder, &case.text, &text_field(wanted, case.room)])
 }
 
 fn case(files: &Files, folder: &str, text: &str, room: usize) -> Case {

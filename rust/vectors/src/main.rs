@@ -7,6 +7,7 @@ mod definitions;
 mod edge;
 mod expansion;
 mod includes;
+mod loads;
 mod lookups;
 mod pass;
 mod record;
@@ -44,5 +45,7 @@ fn records(given: &str) -> io::Result<Vec<Record>> {
     all.extend(definitions::cases());
     all.extend(edge::passes(of_01)?);
     all.extend(pass::cases());
+    all.extend(edge::loads(of_02)?);
+    all.extend(loads::cases());
     Ok(all)
 }

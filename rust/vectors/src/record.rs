@@ -14,6 +14,9 @@ pub const DEFINITIONS: u8 = 3;
 /// Fields: bundle, folder, text, sheet, answer for `middle` with nothing, answer for `out` with the text, answer for `left` with the sheet,
 /// closed. Each answer is as above, with the same number in all three; closed is one byte, 1 or 0.
 pub const PASS: u8 = 4;
+/// Fields: seed, list, answer. The seed is four bytes, low byte first; the list is one byte, 1 for the definition pieces and else 0; the answer
+/// is as that of `INCLUDE`.
+pub const LOAD: u8 = 5;
 
 /// The longest buffer that the program has.
 pub const LONGEST_ROOM: usize = 4096;
@@ -34,6 +37,14 @@ impl Record {
 /// The answer for one buffer: number, the buffer's length in 16 bits, what the call writes to its start.
 pub fn answer_field(number: u8, room: usize, bytes: &[u8]) -> Vec<u8> {
     [&[number][..], &word(room), bytes].concat()
+}
+
+/// The answer of a call that writes one text: that text, or the number of the refusal.
+pub fn text_field(wanted: &Result<Vec<u8>, u8>, room: usize) -> Vec<u8> {
+    match wanted {
+        Ok(text) => answer_field(0, room, text),
+        Err(number) => answer_field(*number, room, b""),
+    }
 }
 
 /// 16 bits, low byte first.
