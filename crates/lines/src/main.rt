@@ -187,6 +187,35 @@ fn pass_same(case: &[u8]) -> bool {
         & closed_same(field(case, 7), got.closed)
 }
 
+// The seed of a field: four bytes, low byte first; 0 where there are fewer.
+fn seed(bytes: &[u8]) -> u32 {
+    if bytes.len() < 4 {
+        return 0;
+    }
+    (short_at(bytes, 0) + 65536 * short_at(bytes, 2)) as u32
+}
+
+// The list of a field: is it one byte, 1 for the definition pieces?
+fn definitions(list: &[u8]) -> bool {
+    if list.len() != 1 {
+        return false;
+    }
+    list[0] == 1
+}
+
+// The test load: seed, list, and the answer of a text.
+fn load_same(case: &[u8]) -> bool {
+    let answer = field(case, 2);
+    let mut out = buffer();
+    let n = room(answer, &out);
+    let got = builder::test_load(
+        seed(field(case, 0)),
+        definitions(field(case, 1)),
+        &mut out[..n],
+    );
+    text_same(answer, got, &out)
+}
+
 // What a case came to: whether the answer is the one given, and how long the case is behind its tag.
 struct Done {
     pub same: bool,
@@ -217,6 +246,10 @@ fn replay_case(tag: u8, case: &[u8]) -> Done
         4 => Done {
             same: pass_same(case),
             len: behind(case, 8),
+        },
+        5 => Done {
+            same: load_same(case),
+            len: behind(case, 3),
         },
         _ => Done {
             same: false,
