@@ -106,8 +106,8 @@ struct wf_passed wf_pass(const uint8_t *bundle, size_t bundle_len, const uint8_t
                          uint8_t *middle, size_t middle_len, uint8_t *out, size_t out_len,
                          uint8_t *left, size_t left_len);
 
-/* No test load is longer, whatever its seed and list: an out of so many bytes is never too short. */
-#define WF_LONGEST_LOAD 448
+/* An out of so many bytes is never too short for a test load, whatever its seed and list. */
+#define WF_LOAD_ROOM 448
 
 /* The test load of a seed (document 02, E2): pieces drawn from the list of definition pieces where definitions is true, else from that of
  * document pieces. Refusal 11 for a load longer than out. */

@@ -10,7 +10,7 @@ def say(name, text):
     print(f'{name}: {text}', file=sys.stderr)
 
 
-def path(name):
+def program_path(name):
     return os.path.join(ROOT, 'target', 'bin', name)
 
 
@@ -24,7 +24,7 @@ def last_change():
 
 def ready(name):
     """Is the program there and as new as its sources, or can it be built."""
-    program, changed = path(name), last_change()
+    program, changed = program_path(name), last_change()
     if not os.path.exists(program):
         say(name, f'the program is not there yet; proving and building it with `rt check {name}`')
     elif os.stat(program).st_mtime_ns < changed:
@@ -46,7 +46,7 @@ def ready(name):
 
 def output(name, given):
     """What the program writes for this input; none where it does not end well."""
-    ran = subprocess.run([path(name)], input=given, stdout=subprocess.PIPE, check=False)
+    ran = subprocess.run([program_path(name)], input=given, stdout=subprocess.PIPE, check=False)
     if ran.returncode != 0:
         say(name, f'the program ended with status {ran.returncode}')
         return None

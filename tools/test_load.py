@@ -39,18 +39,19 @@ class Load(unittest.TestCase):
             (['--definitions', '258'], b'0201000001'),
             (['2147483648'], b'0000008000'),
             (['4294967295'], b'ffffffff00'),
+            (['0' * 20 + '7'], b'0700000000'),
         ]:
             r = run(self.tools, *words)
             self.assertEqual((r.returncode, r.stdout, r.stderr), (0, given, b''), words)
 
     def test_no_seed(self):
-        for words in (['4294967296'], ['-1'], ['x'], ['1.5'], ['\u0661'], ['']):
+        for words in (['4294967296'], ['9' * 5000], ['-1'], ['x'], ['1.5'], ['\u0661'], ['']):
             r = run(self.tools, *words)
             self.assertEqual((r.returncode, r.stdout), (2, b''), words)
             self.assertIn(b'is no seed', r.stderr)
 
     def test_other_words(self):
-        for words in ([], ['1', '2'], ['--definitions'], ['1', '--definitions', '--definitions'], ['1', '--document']):
+        for words in ([], ['1', '2'], ['--definitions'], ['1', '--definitions', '--definitions'], ['1', '--document'], ['--help']):
             r = run(self.tools, *words)
             self.assertEqual((r.returncode, r.stdout), (2, b''), words)
             self.assertIn(b'use: ', r.stderr)
@@ -61,11 +62,12 @@ class Load(unittest.TestCase):
         self.assertEqual((r.returncode, r.stdout), (1, b''))
         self.assertIn(b'status 3', r.stderr)
 
-    def test_seed_0_of_the_proved_program(self):
+    def test_the_proved_program(self):
         for words, wanted in [
             (['0'], b'#x\n#x.#raw(x)  #x.#let y = x\n#x #x.#link("u")[t] #raw(x) '),
             (['0', '--definitions'],
              b'#let x = "10"\n, (a:)"\\q""\\q"(a:#let d = #let x = "10"\n"\\q"(a:none"\\q")"\\q"'),
+            (['66044'], b'#x.#raw(x)#x.'),
         ]:
             r = run(TOOLS, *words)
             self.assertEqual((r.returncode, r.stdout), (0, wanted), r.stderr)

@@ -44,15 +44,16 @@ pub fn resolve_includes(bundle: &[u8], folder: &[u8], text: &[u8], out: &mut [u8
     }
 }
 
-// The load that both suppliers make of a seed, from the list of definition pieces or from that of document pieces: 11 (E2).
+// The load that both suppliers make of a seed (E2), from the list of definition pieces where `definitions` is true, else from that of document pieces.
+// Refused: 11.
 pub fn test_load(seed: u32, definitions: bool, out: &mut [u8]) -> Text
     ensures { λ r. ⌜ testLoadOf seed definitions (length (now (out .entry))) ≡ record { number = r .number; len = r .len; out = now (out .exit) } ⌝ }
 {
-    let t = test_load::test_load(seed, definitions, out);
-    buffers::clear_from(out, t.len);
+    let load = test_load::test_load(seed, definitions, out);
+    buffers::clear_from(out, load.len);
     Text {
-        number: t.number,
-        len: t.len,
+        number: load.number,
+        len: load.len,
     }
 }
 

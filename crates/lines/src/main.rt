@@ -222,35 +222,27 @@ struct Done {
     pub len: usize,
 }
 
+// What a case of n fields came to.
+fn came_to(same: bool, case: &[u8], n: usize) -> Done
+    ensures { λ r. ⌜ r .len ≤ length (now (case .entry)) ⌝ }
+{
+    Done {
+        same: same,
+        len: behind(case, n),
+    }
+}
+
 // A case by its tag: one arm a call. A tag that is not known differs, and what stands behind it is not read.
 fn replay_case(tag: u8, case: &[u8]) -> Done
     ensures { λ r. ⌜ r .len ≤ length (now (case .entry)) ⌝ }
 {
     match tag {
-        0 => Done {
-            same: lookup_same(case),
-            len: behind(case, 4),
-        },
-        1 => Done {
-            same: includes_same(case),
-            len: behind(case, 4),
-        },
-        2 => Done {
-            same: expansion_same(case),
-            len: behind(case, 5),
-        },
-        3 => Done {
-            same: definitions_same(case),
-            len: behind(case, 4),
-        },
-        4 => Done {
-            same: pass_same(case),
-            len: behind(case, 8),
-        },
-        5 => Done {
-            same: load_same(case),
-            len: behind(case, 3),
-        },
+        0 => came_to(lookup_same(case), case, 4),
+        1 => came_to(includes_same(case), case, 4),
+        2 => came_to(expansion_same(case), case, 5),
+        3 => came_to(definitions_same(case), case, 4),
+        4 => came_to(pass_same(case), case, 8),
+        5 => came_to(load_same(case), case, 3),
         _ => Done {
             same: false,
             len: case.len(),

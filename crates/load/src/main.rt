@@ -1,5 +1,5 @@
-// The program `load` (E2): a seed on standard input, four bytes, low byte first, and behind them a byte, 0 for a document and else for definitions; the
-// load of the seed on standard output. Bytes that are not there count as 0.
+// The program `load` (E2): a seed on standard input, four bytes, low byte first, and behind them a byte, 0 for a document, any other for definitions;
+// the load of the seed on standard output. Bytes that are not there count as 0.
 use libc::STDOUT_FILENO;
 ghost use mathlib.Core.Path.{_≡_};
 ghost use Prim.Native.Nat.{_+_, _*_};
@@ -12,7 +12,7 @@ fn word32(a: u8, b: u8, c: u8, d: u8) -> u32
     a as u32 + 256 * (b as u32) + 65536 * (c as u32) + 16777216 * (d as u32)
 }
 
-// A buffer that every load fits.
+// A buffer that every load fits into (promises, `Loads.enough`), so that no call is refused.
 fn output_buffer() -> [u8; 448]
     ensures { λ r. ⌜ 448 ≡ length r ⌝ }
 {

@@ -58,16 +58,16 @@ module _ (list : List (List ℕ)) (seed : ℕ) where
   pub bounded : (m : ℕ) → all (λ p. leb (length p) m) list ≡ true → length (load list seed) ≤ 32 * m
   bounded m h = load-bound list seed m h
 
--- ENOUGH: no piece of either list has more than 14 bytes, so 448 bytes, lent once, are enough for every seed and both lists.
-pub enough : (seed : ℕ) (definitions : Bool) (n : ℕ) → 448 ≤ n → testLoadOf seed definitions n .number ≡ 0
+-- ENOUGH: no piece of either list has more than 14 bytes, so no load has more than 448, and so many bytes, lent once, are enough for every seed and both lists.
+pub at-most-448 : (seed : ℕ) (definitions : Bool) → length (load (listOf definitions) seed) ≤ 448
 unfolding listOf documentPieces definitionPieces all
-enough seed definitions n h = ap (λ r. r .number) (fits seed definitions n (omega (arith, long definitions)))
-  where
-    long : (d : Bool) → length (load (listOf d) seed) ≤ 32 * 14
-    long true = bounded definitionPieces seed 14 refl
-    long false = bounded documentPieces seed 14 refl
+at-most-448 seed true = bounded definitionPieces seed 14 refl
+at-most-448 seed false = bounded documentPieces seed 14 refl
 
--- A TEXT of 01: no byte from 128, so no call refuses a load with 6.
+pub enough : (seed : ℕ) (definitions : Bool) (n : ℕ) → 448 ≤ n → testLoadOf seed definitions n .number ≡ 0
+enough seed definitions n h = ap (λ r. r .number) (fits seed definitions n (omega (arith, at-most-448 seed definitions)))
+
+-- A TEXT of 01: no byte from 128, so the rule for a given text (6) holds of a load.
 pub ascii-load : (seed : ℕ) (definitions : Bool) → all ascii (load (listOf definitions) seed) ≡ true
 unfolding listOf documentPieces definitionPieces all ascii
 ascii-load seed true = load-all ascii definitionPieces seed refl

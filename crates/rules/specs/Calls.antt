@@ -103,7 +103,7 @@ resolveIncludesResult bundle folder text n = do
 unfoldable pub resolveIncludesOf : List ℕ → List ℕ → List ℕ → ℕ → Output
 resolveIncludesOf bundle folder text n = outputAnswer n (resolveIncludesResult bundle folder text n)
 
--- TEST LOAD (E2): the load of a seed, from the list of definition pieces or from that of document pieces; a short output is 11.
+-- TEST LOAD (E2): the load of a seed, from the list of definition pieces where `definitions` is true, else from that of document pieces; a short output is 11.
 unfoldable pub testLoadResult : ℕ → Bool → ℕ → Answer (List ℕ)
 testLoadResult seed definitions n = do
   check 11 (leb (length (load (listOf definitions) seed)) n)

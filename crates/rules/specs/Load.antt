@@ -5,10 +5,11 @@ use Prim.Native.Nat.{ℕ, zero, suc, _+_, _*_, _/_, _%_, _^_}
 use lib.ListN.{getD}
 use Rattle.rules.specs.Reader.{bytes}
 
--- The state is 32 bits: 1664525 × state + 1013904223, where the product and the sum wrap.
+-- Wrapping at 32 bits.
 unfoldable pub wrap : ℕ → ℕ
 wrap n = n % 2 ^ 32
 
+-- The state is 32 bits: next = 1664525 × state + 1013904223, where the product and the sum wrap.
 unfoldable pub next : ℕ → ℕ
 next state = wrap (wrap (1664525 * state) + 1013904223)
 
@@ -37,7 +38,7 @@ module _ (list : List (List ℕ)) where
   unfoldable pub load : ℕ → List ℕ
   load seed = concat (pieces seed)
 
--- The two lists, from 0: the pieces of a document, and of definitions.
+-- The two lists, from 0: document pieces, and definition pieces.
 unfoldable pub documentPieces : List (List ℕ)
 documentPieces = bytes "#x" ∷ bytes "#x." ∷ bytes "#raw(x)" ∷ bytes "#link(\"u\")[t]" ∷ bytes "\n" ∷ bytes "#let y = x\n" ∷ bytes " " ∷ bytes "none" ∷ []
 

@@ -135,7 +135,7 @@ fn near(text: &[u8], at: usize, c: u8) -> usize
     i
 }
 
-// Are all bytes below 128? Every byte is looked at, as in `lacks`.
+// Are all bytes below 128? Every byte is looked at, as in `block_without`.
 pub fn is_ascii(text: &[u8]) -> bool
     ensures { λ r. ⌜ r ≡ all ascii (now (text .entry)) ⌝ }
 {

@@ -78,8 +78,8 @@ fn put_load(pieces: &[u8], starts: [usize; 9], seed: u32, out: &mut [u8]) -> usi
     p
 }
 
-// The load of a seed from one of the two lists.
-fn put_load_of(definitions: bool, seed: u32, out: &mut [u8]) -> usize
+// Puts the load of a seed, from the list of definition pieces where `definitions` is true, else from that of document pieces.
+fn put_load_of(seed: u32, definitions: bool, out: &mut [u8]) -> usize
     ensures { λ r. ⌜ Put (length (now (out .entry))) (now (out .entry)) 0 (load (listOf definitions) seed) (now (out .exit)) r ⌝ }
 {
     if definitions {
@@ -104,11 +104,12 @@ pub struct Outcome {
     pub len: usize,
 }
 
-// The load of a seed at the start of a buffer, from the list of definition pieces or from that of document pieces: 11. What stands behind it is left as it is.
+// The load of a seed at the start of a buffer, from the list of definition pieces where `definitions` is true, else from that of document pieces. Refused: 11.
+// What stands behind it, and in all of the buffer where it is refused, is for the caller to clear.
 pub fn test_load(seed: u32, definitions: bool, out: &mut [u8]) -> Outcome
     ensures { λ r. ⌜ Loads seed definitions (now (out .entry)) (now (out .exit)) r ⌝ }
 {
-    let end = put_load_of(definitions, seed, out);
+    let end = put_load_of(seed, definitions, out);
     if out.len() < end {
         return Outcome { number: 11, len: 0 };
     }

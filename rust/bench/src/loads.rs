@@ -2,7 +2,7 @@
 use crate::timing::times;
 use oracle::load::{MOST_PIECES, SEEDS, pieces, write};
 use std::hint::black_box;
-use wagtailfen::{LONGEST_LOAD, test_load};
+use wagtailfen::{LOAD_ROOM, test_load};
 
 const NOTES: &str = "\
 test_load (nanoseconds a load; where a row has many seeds the mean of them, and of their pieces and bytes)
@@ -33,7 +33,7 @@ fn first_of(count: usize) -> u32 {
 
 fn row(name: &str, definitions: bool, seeds: &[u32]) {
     let lengths: Vec<usize> = seeds.iter().map(|&seed| length(seed, definitions)).collect();
-    let ours = |room: fn(usize) -> usize, out: &mut [u8; LONGEST_LOAD]| {
+    let ours = |room: fn(usize) -> usize, out: &mut [u8; LOAD_ROOM]| {
         for (&seed, &len) in seeds.iter().zip(&lengths) {
             black_box(test_load(black_box(seed), definitions, black_box(&mut out[..room(len)])));
         }
@@ -44,10 +44,10 @@ fn row(name: &str, definitions: bool, seeds: &[u32]) {
             write(black_box(seed), definitions, black_box(&mut text));
         }
     };
-    let [mut first, mut second, mut third] = [[0; LONGEST_LOAD]; 3];
+    let [mut first, mut second, mut third] = [[0; LOAD_ROOM]; 3];
     let taken = times([
         &mut || ours(|len| len, &mut first),
-        &mut || ours(|_| LONGEST_LOAD, &mut second),
+        &mut || ours(|_| LOAD_ROOM, &mut second),
         &mut || ours(|len| len - 1, &mut third),
         &mut rust,
     ]);
@@ -65,7 +65,7 @@ fn row(name: &str, definitions: bool, seeds: &[u32]) {
 
 /// How long the load is. Both must write the same.
 fn length(seed: u32, definitions: bool) -> usize {
-    let (mut out, mut text) = ([0; LONGEST_LOAD], Vec::new());
+    let (mut out, mut text) = ([0; LOAD_ROOM], Vec::new());
     let here = test_load(seed, definitions, &mut out);
     write(seed, definitions, &mut text);
     assert_eq!((here.number, &out[..here.len]), (0, &text[..]));

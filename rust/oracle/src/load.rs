@@ -6,8 +6,8 @@ const DOCUMENT: [&str; 8] = ["#x", "#x.", "#raw(x)", "#link(\"u\")[t]", "\n", "#
 const DEFINITIONS: [&str; 8] = ["#let x = \"10\"\n", "(a:", ")", "none", ", ", "#let d = ", "\"\\q\"", "\n"];
 
 pub const MOST_PIECES: usize = 32;
-/// No load is longer: so many times the longest piece of both lists.
-pub const LONGEST: usize = MOST_PIECES * DEFINITIONS[0].len();
+/// An output that every load fits into: so many times the longest piece of both lists.
+pub const ROOM: usize = MOST_PIECES * DEFINITIONS[0].len();
 
 /// Seeds that agree in this many low bits have the same load: a draw takes no bit of a state above the 21st, and no bit of a product or sum
 /// depends on a higher one. So there are no more loads of a list than these seeds.
@@ -61,7 +61,7 @@ mod tests {
     use super::*;
 
     fn text(seed: u32, definitions: bool) -> String {
-        String::from_utf8(answer(seed, definitions, LONGEST).unwrap()).unwrap()
+        String::from_utf8(answer(seed, definitions, ROOM).unwrap()).unwrap()
     }
 
     // What 02 and its reading say of seed 0.
@@ -88,7 +88,7 @@ mod tests {
     fn lengths() {
         assert_eq!(list(false).map(str::len), [2, 3, 7, 13, 1, 11, 1, 4]);
         assert_eq!(list(true).map(str::len), [14, 3, 1, 4, 2, 9, 4, 1]);
-        assert_eq!(LONGEST, 448);
+        assert_eq!(ROOM, 448);
     }
 
     // The states differ in high bits, the pieces do not.

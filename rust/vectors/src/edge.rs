@@ -4,7 +4,7 @@
 use crate::record::Record;
 use crate::{definitions, expansion, includes, loads, lookups, pass};
 use oracle::definitions::work_needed;
-use oracle::load::{LONGEST, pieces};
+use oracle::load::{ROOM, pieces};
 use oracle::lookup::{KINDS, Looked};
 use oracle::pass::Rooms;
 use oracle::{Tree, Value, sheet};
@@ -95,7 +95,7 @@ fn load_case(what: &str, given: &str) -> Record {
         "2^32-1" => u32::MAX,
         seed => seed.parse().expect("a seed"),
     };
-    let room = what.split_once(" into ").map_or(LONGEST, |(_, room)| room.parse().expect("a length"));
+    let room = what.split_once(" into ").map_or(ROOM, |(_, room)| room.parse().expect("a length"));
     let case = loads::Case { seed, definitions: words[2] == "definitions", room };
     let wanted = loads::wanted(&case);
     let here = match &wanted {

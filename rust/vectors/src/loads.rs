@@ -1,6 +1,6 @@
 //! Cases of `test_load`. Texts and numbers are 02's, as the oracle reads it: the Rust reference has no such call.
 use crate::record::{LOAD, LONGEST_ROOM, Record, text_field};
-use oracle::load::{LONGEST, MOST_PIECES, SEEDS, answer, list, pieces};
+use oracle::load::{MOST_PIECES, ROOM, SEEDS, answer, list, pieces};
 
 #[derive(Clone, Copy)]
 pub struct Case {
@@ -28,7 +28,7 @@ pub fn cases() -> Vec<Record> {
 /// The first seeds, one of a high bit alone, and the last: into no bytes, one too few, just enough, one too many, and as many as suffice
 /// for every seed.
 fn ends() -> Vec<Case> {
-    let rooms = |len: usize| vec![0, len - 1, len, len + 1, LONGEST];
+    let rooms = |len: usize| vec![0, len - 1, len, len + 1, ROOM];
     [0, 1, 1 << 31, u32::MAX].into_iter().flat_map(|seed| both(seed, rooms)).collect()
 }
 

@@ -199,8 +199,8 @@ pub fn pass(
     }
 }
 
-/// No test load is longer, whatever its seed and list: an output of so many bytes is never too short.
-pub const LONGEST_LOAD: usize = 448;
+/// An output of so many bytes is never too short for a test load, whatever its seed and list.
+pub const LOAD_ROOM: usize = 448;
 
 /// Writes the test load of `seed` (document 02, E2) to the start of `out`, and 0 behind it: pieces drawn from the list of definition pieces
 /// where `definitions` is true, else from that of document pieces.
@@ -365,7 +365,7 @@ mod tests {
 
     #[test]
     fn loads() {
-        let mut out = [0xAA; LONGEST_LOAD];
+        let mut out = [0xAA; LOAD_ROOM];
         let mut call = |seed, definitions, n: usize| {
             out.fill(0xAA);
             let Text { number, len } = test_load(seed, definitions, &mut out[..n]);
@@ -376,7 +376,7 @@ mod tests {
         let refused = (11, String::new(), true);
         let document = "#x\n#x.#raw(x)  #x.#let y = x\n#x #x.#link(\"u\")[t] #raw(x) ";
         assert_eq!(call(0, false, document.len()), (0, document.into(), true));
-        assert_eq!(call(0, false, LONGEST_LOAD), (0, document.into(), true));
+        assert_eq!(call(0, false, LOAD_ROOM), (0, document.into(), true));
         assert_eq!(call(0, false, document.len() - 1), refused);
         assert_eq!(call(0, true, 0), refused);
         let (number, definitions, zero) = call(0, true, 75);

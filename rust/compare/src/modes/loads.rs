@@ -5,7 +5,7 @@ use crate::buffer::Buffer;
 use crate::case::{Case, Form};
 use crate::rng::Rng;
 use oracle::definitions::{answer as read, work_needed};
-use oracle::load::{LONGEST, SEEDS, answer, pieces};
+use oracle::load::{ROOM, SEEDS, answer, pieces};
 use oracle::pass::Rooms;
 use oracle::{Files, bundle};
 use std::collections::{BTreeMap, BTreeSet};
@@ -41,7 +41,7 @@ impl Mode for Loads {
             .input("seed", Form::Plain, seed.to_le_bytes().to_vec())
             .input("list", Form::Plain, vec![u8::from(definitions)])
             .room("short", rng.below(len))
-            .room("long", len + rng.below(LONGEST))
+            .room("long", len + rng.below(ROOM))
     }
 
     /// Into outputs of the case's two lengths, of no bytes, one too few, just enough and one too many. And the seed with every bit inverted,
@@ -71,7 +71,7 @@ fn seed_of(bytes: &[u8]) -> u32 {
 }
 
 fn load(seed: u32, definitions: bool) -> Vec<u8> {
-    answer(seed, definitions, LONGEST).expect("no load is longer")
+    answer(seed, definitions, ROOM).expect("no load is longer")
 }
 
 fn call(seed: u32, definitions: bool, room: usize) -> Result<(), String> {
