@@ -10,7 +10,7 @@ use Rattle.rules.specs.Bytes.{ascii, is_folder}
 use Rattle.rules.specs.Bundle.{Entry, bundle_of}
 use Rattle.rules.specs.Sheet.{Records, sheet_length, sheet_of}
 use Rattle.rules.specs.Calls.{limit}
-use Rattle.rules.specs.Laws.Bool.{is_some, true-some, false-some}
+use Rattle.rules.proofs.Laws.Bool.{is_some, true-some, false-some}
 use Rattle.bundle.specs.Find.{entries_of, entries-some}
 use Rattle.sheet.specs.Use.{Checked, known}
 

@@ -6,7 +6,7 @@ use Rattle.rules.specs.Bytes.{word}
 use Rattle.rules.specs.Sheet.{Value, Records, encode, sheet_length, good_records, good_value, set}
 use Rattle.rules.specs.Run.{Did}
 use Rattle.buffers.specs.Emits.{guard, guard-yes}
-use Rattle.rules.specs.Laws.Sheet.{set-good}
+use Rattle.rules.proofs.Laws.Sheet.{set-good}
 use Rattle.sheet.specs.Find.{IsSheet}
 use Rattle.sheet.specs.Find.{HasRecords}
 use Rattle.binding.specs.Write.{BindsTo, Leaves}

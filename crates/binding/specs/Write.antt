@@ -11,8 +11,8 @@ use Rattle.scan.specs.Sets.{part}
 use Rattle.scan.specs.Laws.{drop-take}
 use Rattle.buffers.specs.Laws.{sets-before}
 use Rattle.rules.specs.Bytes.{less}
-use Rattle.rules.specs.Laws.Bool.{or_elim, or-false-l, or-false-r}
-use Rattle.rules.specs.Laws.Sheet.{count-le}
+use Rattle.rules.proofs.Laws.Bool.{or_elim, or-false-l, or-false-r}
+use Rattle.rules.proofs.Laws.Sheet.{count-le}
 use Rattle.rules.specs.Sheet.{Value, text, nothing, dictionary, Records, end, rec, encode, count, field_bytes, field_mask, value_bytes, value_mask, set}
 use Rattle.sheet.specs.Parts.{part_slice, length-slice}
 use Rattle.record_bytes.specs.Moves.{slice-take, slice-above, take-stored}

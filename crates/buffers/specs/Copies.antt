@@ -5,7 +5,7 @@ use Rattle.std.proofs.Common.{◌∙◌, arith, length-drop, drop-drop, get_or-d
 use mathlib.Core.List.{List, [], ◌∷◌}
 use Prim.Native.Nat.{ℕ, zero, suc, ◌+◌, ◌-◌, ◌≤◌, ◌<◌}
 use Rattle.rules.specs.Run.{ok, put, and_then, unrefused, Did, Step, Trace, step, run, all_whole, final, write}
-use Rattle.rules.specs.Laws.Enough.{run_step}
+use Rattle.rules.proofs.Laws.Enough.{run_step}
 use Rattle.scan.specs.Sets.{part}
 use Rattle.buffers.specs.Emits.{write-none, write_same, write-join, guarded, guard-yes}
 

@@ -13,8 +13,8 @@ use Rattle.std.proofs.Math.Seq.{take-append_seam}
 use borrow.Author.Tests.{le-leb, lt-leb, leb-true, leb-false}
 use Rattle.rules.specs.Answer.{Answer, refused, accepted, ◌>>=◌, ◌>>◌, check}
 use Rattle.rules.specs.Run.{Emit, ok, put, fail, and_then, Did, Trace, fin, step, emitted, final, write, limited}
-use Rattle.rules.specs.Laws.Answer.{not-both, accepted-same}
-use Rattle.rules.specs.Laws.Limit.{write_inv}
+use Rattle.rules.proofs.Laws.Answer.{not-both, accepted-same}
+use Rattle.rules.proofs.Laws.Limit.{write_inv}
 use Rattle.buffers.specs.Put.{after, Put}
 use Rattle.buffers.specs.Laws.{after-fits, after-not, put-length, sets-append}
 

@@ -1,7 +1,7 @@
 // The bundle (document 01, section 1): its files and folders. This is the only crate that asks a bundle for a path.
 ghost use Rattle.std.specs.Prelude.{◌≡◌, true, ◌+◌, ◌≤◌, length, take, drop};
 ghost use Rattle.rules.specs.Bundle.{bundle_of};
-ghost use Rattle.rules.specs.Laws.Bool.{is_some};
+ghost use Rattle.rules.proofs.Laws.Bool.{is_some};
 ghost use Rattle.rules.specs.Files.{view, fetch, plain, opened, has_citation, project_root};
 ghost use Rattle.bundle.specs.Find.{Finds, entries_of};
 ghost use Rattle.bundle.specs.Open.{Opens, there, Root};

@@ -16,8 +16,8 @@ use Rattle.rules.specs.Reader.{empty, all, but}
 use Rattle.rules.specs.Bytes.{holds, join}
 use Rattle.rules.specs.Layout.{Parser, bind, ◌>>=◌, ◌>>◌, pure, broken, require, bit, remaining, byte, word16, field, field_if, take_bytes}
 use Rattle.rules.specs.Bundle.{Entry, entry}
-use Rattle.rules.specs.Laws.Bool.{or_elim, or-false-l, or-false-r}
-use Rattle.rules.specs.Laws.Layout.{byte_at, byte-end, word-at, word_end, takes, takes-short, take-some}
+use Rattle.rules.proofs.Laws.Bool.{or_elim, or-false-l, or-false-r}
+use Rattle.rules.proofs.Laws.Layout.{byte_at, byte-end, word-at, word_end, takes, takes-short, take-some}
 use Rattle.scan.specs.Sets.{Spans}
 use Rattle.scan.specs.Laws.{span-all, all-span}
 use Rattle.paths.specs.Paths.{Joins}

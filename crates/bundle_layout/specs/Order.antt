@@ -12,8 +12,8 @@ use borrow.Author.Tests.{le-ltb, eq-eqb, ne_eqb, eqb-true}
 use Rattle.rules.specs.Reader.{all, prefix, bytes}
 use Rattle.rules.specs.Bytes.{is_path, less}
 use Rattle.rules.specs.Bundle.{ascending, above, good_paths}
-use Rattle.rules.specs.Laws.Bool.{and_l, and_r, and_i, not-true}
-use Rattle.rules.specs.Laws.Sheet.{less_elim, less-tail, less_irrefl, less-trans}
+use Rattle.rules.proofs.Laws.Bool.{and_l, and_r, and_i, not-true}
+use Rattle.rules.proofs.Laws.Sheet.{less_elim, less-tail, less_irrefl, less-trans}
 use Rattle.scan.specs.Laws.{prefix-split}
 
 no-cons : {P : Type 0} {x : ℕ} {xs : List ℕ} → x ∷ xs ≡ [] → P

@@ -8,10 +8,10 @@ use Rattle.rules.specs.Bytes.{blank, line_blank}
 use Rattle.rules.specs.Sheet.{Lookup}
 use Rattle.rules.specs.Strings.{onto, literal_from, literal, reference, plus, expression_round, expression}
 use Rattle.scan.specs.Sets.{plain_byte}
-use Rattle.rules.specs.Laws.Bool.{and_l, and_r, and_i, not-true, true-eqb, eqb-true}
+use Rattle.rules.proofs.Laws.Bool.{and_l, and_r, and_i, not-true, true-eqb, eqb-true}
 use Rattle.std.proofs.lemmas.Bool.{eqb-false, not-true as negated}
-use Rattle.rules.specs.Laws.Sheet.{same_refl, same_eq}
-use Rattle.rules.specs.Laws.Refusals.{Yields, yields_ret, yields_if, yields-bind, yields-then}
+use Rattle.rules.proofs.Laws.Sheet.{same_refl, same_eq}
+use Rattle.rules.proofs.Laws.Refusals.{Yields, yields_ret, yields_if, yields-bind, yields-then}
 use Rattle.scan.specs.Laws.{prefix-fits}
 use Rattle.strings.specs.declared.progress.Progress.{Progress}
 use Rattle.strings.specs.Progress.{met-more, met-same}

@@ -12,7 +12,7 @@ use Rattle.rules.specs.Files.{view, fetch}
 use Rattle.rules.specs.Sheet.{Records, sheet_length}
 use Rattle.rules.specs.Imports.{file_sheet, imported_sheet, definitions}
 use Rattle.rules.specs.Calls.{limit, zeros, padded, defined_answer, parse_definitions_result}
-use Rattle.rules.specs.Laws.Bool.{is_some, true-some, false-some}
+use Rattle.rules.proofs.Laws.Bool.{is_some, true-some, false-some}
 use Rattle.bundle.specs.Find.{entries_of, entries-some}
 use Rattle.bundle.specs.Open.{Opens, answer_of}
 use Rattle.bundle.specs.declared.Opened.{Opened}

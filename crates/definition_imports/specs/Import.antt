@@ -7,7 +7,7 @@ use native.Mathlib.Omega.{arith}
 use Rattle.std.proofs.Math.ListN.{drop}
 use Rattle.rules.specs.Answer.{Answer, refused, accepted, ◌>>=◌, ◌>>◌, check}
 use Rattle.rules.specs.Reader.{all, empty, but, either, span}
-use Rattle.rules.specs.Laws.Bool.{and_l}
+use Rattle.rules.proofs.Laws.Bool.{and_l}
 use Rattle.rules.specs.Bytes.{ascii, blank, is_path, join, parent}
 use Rattle.rules.specs.Bundle.{Entry}
 use Rattle.rules.specs.Files.{View, view}

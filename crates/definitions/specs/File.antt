@@ -12,14 +12,14 @@ use Rattle.std.proofs.Math.Seq.{length-sets, take-append_seam}
 use Rattle.rules.specs.Answer.{Answer, refused, accepted, ◌>>=◌, ◌>>◌, check}
 use Rattle.rules.specs.Reader as Reader
 use Rattle.rules.specs.Reader.{all, bytes, prefix}
-use Rattle.rules.specs.Laws.Bool.{and_l}
+use Rattle.rules.proofs.Laws.Bool.{and_l}
 use Rattle.rules.specs.Run.{ok, fail, and_then, Did, Step, Trace, step, run, write, limited}
 use Rattle.rules.specs.Bytes.{ascii}
 use Rattle.rules.specs.Files.{View}
 use Rattle.rules.specs.Sheet.{Records, end, encode, sheet_length, good_records}
 use Rattle.rules.specs.Definitions.{Names, names, bound, definition_step}
 use Rattle.rules.specs.Imports.{bind_names, imported, file_sheet, imported_sheet}
-use Rattle.rules.specs.Laws.Enough.{run_at, run-first}
+use Rattle.rules.proofs.Laws.Enough.{run_at, run-first}
 use Rattle.scan.specs.Sets.{part, Spans, Starts, not_byte}
 use Rattle.scan.specs.Laws.{mark-yes, mark-no, mark_of, skip_at}
 use Rattle.scan.specs.Stretches.{spans-but}

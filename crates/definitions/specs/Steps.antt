@@ -9,10 +9,10 @@ use Rattle.rules.specs.Run.{ok, fail, Did}
 use Rattle.rules.specs.Bytes.{ascii, blank, word, name_byte, underscored}
 use Rattle.rules.specs.Sheet.{Value, Records, encode, sheet_length, good_records, resolve, set}
 use Rattle.rules.specs.Definitions.{Names, value, dictionary_value, bound, let_bound, let_step, definition_step}
-use Rattle.rules.specs.Laws.Bool.{and_r}
-use Rattle.rules.specs.Laws.Texts.{all_right}
-use Rattle.rules.specs.Laws.Numbers.{numbered_e}
-use Rattle.rules.specs.Laws.Values.{numbered_or, did_has, reads_definition}
+use Rattle.rules.proofs.Laws.Bool.{and_r}
+use Rattle.rules.proofs.Laws.Texts.{all_right}
+use Rattle.rules.proofs.Laws.Numbers.{numbered_e}
+use Rattle.rules.proofs.Laws.Values.{numbered_or, did_has, reads_definition}
 use Rattle.scan.specs.Sets.{part, Spans}
 use Rattle.buffers.specs.Emits.{guard, guard-no}
 use Rattle.sheet.specs.Order.{underscored_if}

@@ -8,7 +8,7 @@ ghost use Rattle.rules.specs.Answer.{Answer};
 ghost use Rattle.rules.specs.Sheet.{Records};
 ghost use Rattle.rules.specs.Definitions.{Names, names, definition_step};
 ghost use Rattle.rules.specs.Imports.{imported, file_sheet, imported_sheet};
-ghost use Rattle.rules.specs.Laws.Bool.{is_some};
+ghost use Rattle.rules.proofs.Laws.Bool.{is_some};
 ghost use Rattle.scan.specs.Sets.{Starts};
 ghost use Rattle.bundle.specs.Find.{entries_of};
 ghost use Rattle.values.specs.Values.{Room};

@@ -13,9 +13,9 @@ use Rattle.rules.specs.Run.{Emit, ok, put, and_then, unrefused, Did, Trace, run,
 use Rattle.rules.specs.Files.{View}
 use Rattle.rules.specs.Sheet.{Records, sheet_length}
 use Rattle.rules.specs.Expansion.{writes, copy_step, expansion_step, expansion}
-use Rattle.rules.specs.Laws.Bool.{and-three}
-use Rattle.rules.specs.Laws.Limit.{written-unrefused}
-use Rattle.rules.specs.Laws.Enough.{run_at, run-first}
+use Rattle.rules.proofs.Laws.Bool.{and-three}
+use Rattle.rules.proofs.Laws.Limit.{written-unrefused}
+use Rattle.rules.proofs.Laws.Enough.{run_at, run-first}
 use Rattle.scan.specs.Sets.{part, Spans, Starts, not_byte}
 use Rattle.scan.specs.Laws.{mark_of}
 use Rattle.scan.specs.Stretches.{spans-each, spans-stop}

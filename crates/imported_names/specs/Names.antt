@@ -13,8 +13,8 @@ use Rattle.rules.specs.Bytes.{word}
 use Rattle.rules.specs.Sheet.{Value, Records, end, rec, encode, sheet_length, good_value, good_records, Lookup, resolve, set}
 use Rattle.rules.specs.Definitions.{Names, star, listed, listed_more}
 use Rattle.rules.specs.Imports.{bind_one, bind_if, bind_all, bind_listed, bind_names}
-use Rattle.rules.specs.Laws.Answer.{bind-accepted}
-use Rattle.rules.specs.Laws.Sheet.{good-parts, resolve-good, set-good}
+use Rattle.rules.proofs.Laws.Answer.{bind-accepted}
+use Rattle.rules.proofs.Laws.Sheet.{good-parts, resolve-good, set-good}
 use Rattle.sheet.specs.Parts.{Part, part_slice}
 use Rattle.sheet.specs.Items.{At, Describes, Holding, inner}
 use Rattle.sheet.specs.Order.{underscored_if}

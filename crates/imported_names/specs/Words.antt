@@ -5,8 +5,8 @@ use Rattle.std.proofs.Common.{sym, ◌∙◌, true≢false, append-nil, append_a
 use Rattle.rules.specs.Reader.{Reader, ret, if_r, ◌>>=◌, ◌>>◌, bytes, the, but, span, prefix, mark, loop, rounds, again, stop}
 use Rattle.rules.specs.Bytes.{word}
 use Rattle.rules.specs.Definitions.{Names, star, listed, listed_more, word_round, names}
-use Rattle.rules.specs.Laws.Entries.{word-moving}
-use Rattle.rules.specs.Laws.Enough.{rounds-again, rounds-stop}
+use Rattle.rules.proofs.Laws.Entries.{word-moving}
+use Rattle.rules.proofs.Laws.Enough.{rounds-again, rounds-stop}
 use Rattle.scan.specs.Sets.{part, Spans, Starts}
 use Rattle.scan.specs.Laws.{mark-yes, mark-no, mark_of, prefix-split}
 use Rattle.binding.specs.declared.Bound.{Bound}

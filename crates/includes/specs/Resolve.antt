@@ -11,9 +11,9 @@ use Rattle.rules.specs.Run.{Emit, ok, put, and_then, unrefused, Trace, step, run
 use Rattle.rules.specs.Bytes.{join}
 use Rattle.rules.specs.Files.{View, opened, project_root}
 use Rattle.rules.specs.Includes.{fenced, inside_file, include_step, wrote}
-use Rattle.rules.specs.Laws.Bool.{and-three}
-use Rattle.rules.specs.Laws.Limit.{written-unrefused}
-use Rattle.rules.specs.Laws.Enough.{run_at}
+use Rattle.rules.proofs.Laws.Bool.{and-three}
+use Rattle.rules.proofs.Laws.Limit.{written-unrefused}
+use Rattle.rules.proofs.Laws.Enough.{run_at}
 use Rattle.buffers.specs.Put.{Put}
 use Rattle.buffers.specs.Laws.{put-length}
 use Rattle.marks.specs.declared.ahead.Known.{Known}

@@ -5,7 +5,7 @@ ghost use Rattle.rules.specs.Bundle.{bundle_of};
 ghost use Rattle.rules.specs.Files.{view};
 ghost use Rattle.rules.specs.Includes.{inside_file, include_step};
 ghost use Rattle.buffers.specs.Put.{Writer};
-ghost use Rattle.rules.specs.Laws.Bool.{is_some};
+ghost use Rattle.rules.proofs.Laws.Bool.{is_some};
 ghost use Rattle.bundle.specs.Find.{entries_of};
 ghost use Rattle.includes.specs.Resolve.{PutsRead, refused_text, finished_text, Resolves};
 ghost use Rattle.marks.specs.Read.{Within};

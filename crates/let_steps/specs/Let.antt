@@ -6,9 +6,9 @@ use Rattle.rules.specs.Reader.{ret, ◌>>=◌, ◌>>◌, but, either, all}
 use Rattle.rules.specs.Bytes.{ascii, line_blank, word, name_byte, underscored}
 use Rattle.rules.specs.Sheet.{Value, text, Records, encode, sheet_length, good_records, Lookup, resolve, set}
 use Rattle.rules.specs.Expansion.{binds, import_step, let_value, let_step}
-use Rattle.rules.specs.Laws.Parts.{let-good}
-use Rattle.rules.specs.Laws.Sheet.{set-good}
-use Rattle.rules.specs.Laws.Texts.{underscored-words}
+use Rattle.rules.proofs.Laws.Parts.{let-good}
+use Rattle.rules.proofs.Laws.Sheet.{set-good}
+use Rattle.rules.proofs.Laws.Texts.{underscored-words}
 use Rattle.scan.specs.Sets.{part, Spans, Skips}
 use Rattle.scan.specs.Stretches.{span-took, all-part}
 use Rattle.paths.specs.Paths.{Trims}

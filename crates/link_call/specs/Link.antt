@@ -11,7 +11,7 @@ use Rattle.rules.specs.Bytes.{blank, line_blank}
 use Rattle.rules.specs.Sheet.{Lookup}
 use Rattle.rules.specs.Strings.{expression}
 use Rattle.rules.specs.Expansion.{Call, outputs, link_text, link_content_block, link_end, link}
-use Rattle.rules.specs.Laws.Sheet.{same_refl, same_eq}
+use Rattle.rules.proofs.Laws.Sheet.{same_refl, same_eq}
 use Rattle.scan.specs.Sets.{byte_is, not_byte, part, Spans, Skips, Sees}
 use Rattle.scan.specs.Laws.{sees-the, skip_at, not-empty, tail-part}
 use Rattle.scan.specs.Stretches.{spans-but}

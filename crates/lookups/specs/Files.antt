@@ -7,7 +7,7 @@ use Rattle.rules.specs.Bytes.{is_path}
 use Rattle.rules.specs.Bundle.{Entry, bundle_of}
 use Rattle.rules.specs.Files.{entry_at, is_folder_of}
 use Rattle.rules.specs.Calls.{Found, found_entry, found_answer, find_file_result, find_file_of}
-use Rattle.rules.specs.Laws.Bool.{is_some, true-some, false-some}
+use Rattle.rules.proofs.Laws.Bool.{is_some, true-some, false-some}
 use Rattle.bundle.specs.Find.{entries_of, entries-some, located, Finds}
 use Rattle.bundle.specs.declared.Found.{Found as Seen}
 use Rattle.bundle.specs.declared.Found.TheVariants.{Absent, Folder, File}

@@ -10,7 +10,7 @@ use Rattle.rules.specs.Reader.{all}
 use Rattle.rules.specs.Bytes.{ascii, word}
 use Rattle.rules.specs.Sheet.{Records, encode, good_records, sheet_of, resolve, text_of}
 use Rattle.rules.specs.Calls.{zeros, padded, looked_answer, resolve_result, resolve_of}
-use Rattle.rules.specs.Laws.Bool.{is_some, false-some}
+use Rattle.rules.proofs.Laws.Bool.{is_some, false-some}
 use Rattle.sheet.specs.declared.lookup.Found.{Found}
 use Rattle.sheet.specs.Use.{known}
 use Rattle.sheet.specs.Order.{underscored_if}

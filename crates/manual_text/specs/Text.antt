@@ -11,10 +11,10 @@ use Rattle.rules.specs.Bundle.{bundle_of}
 use Rattle.rules.specs.Files.{view, fetch}
 use Rattle.rules.specs.Calls.{zeros, padded, find_file_of, parse_definitions_of, pass_of}
 use Rattle.rules.specs.Manual.{answered, sheet_from, output_from, setting, built, shown, manual, manual_of}
-use Rattle.rules.specs.Laws.Answer.{assoc}
-use Rattle.rules.specs.Laws.Calls.{parse_definitions_holds, pass_holds}
-use Rattle.rules.specs.Laws.Found.{content_from, content-refused, content-absent, content-there, found-content, found_inside}
-use Rattle.rules.specs.Laws.Manual.{manual-holds}
+use Rattle.rules.proofs.Laws.Answer.{assoc}
+use Rattle.rules.proofs.Laws.Calls.{parse_definitions_holds, pass_holds}
+use Rattle.rules.proofs.Laws.Found.{content_from, content-refused, content-absent, content-there, found-content, found_inside}
+use Rattle.rules.proofs.Laws.Manual.{manual-holds}
 use Rattle.refusals.specs.Text.{Leaves}
 use Rattle.manual_text.specs.declared.Built.{Built}
 

@@ -6,7 +6,7 @@ use Rattle.std.proofs.Math.Bool.{true, false}
 use Prim.Native.Char.{Char}
 use Rattle.rules.specs.Reader.{skip, the, but, ◌>>=◌, ◌>>◌, ret}
 use Rattle.rules.specs.Includes.{quoted_if, quote}
-use Rattle.rules.specs.Laws.Bool.{and_l, and_r}
+use Rattle.rules.proofs.Laws.Bool.{and_l, and_r}
 use Rattle.scan.specs.Sets.{part, Spans, Skips, Sees, not_byte}
 use Rattle.scan.specs.Laws.{but-no, sees-is, sees-end, skips-at}
 use Rattle.scan.specs.Stretches.{spans-later, spans-stop}

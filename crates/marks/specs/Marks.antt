@@ -10,7 +10,7 @@ use Rattle.rules.specs.Run.{Emit, put, run, emitted, all_whole, write}
 use Rattle.rules.specs.Bytes.{blank}
 use Rattle.rules.specs.Files.{View}
 use Rattle.rules.specs.Includes.{include_step, copy_byte, commented}
-use Rattle.rules.specs.Laws.Bool.{and_l, and_r}
+use Rattle.rules.proofs.Laws.Bool.{and_l, and_r}
 use Rattle.scan.specs.Sets.{Spans, Starts, Stands, not_byte}
 use Rattle.scan.specs.Laws.{but-yes, mark_of, stands}
 use Rattle.scan.specs.Stretches.{spans-each}

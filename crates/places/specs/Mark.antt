@@ -6,8 +6,8 @@ use Rattle.std.proofs.Math.Seq.{take-append_seam, drop-append_seam}
 use Rattle.scan.specs.Sets.{part}
 use Rattle.rules.specs.Bytes.{word, less}
 use Rattle.rules.specs.Sheet.{Value, Records, end, rec, encode, good_records, decode, set, before}
-use Rattle.rules.specs.Laws.Bool.{and_i, and_l, and_r}
-use Rattle.rules.specs.Laws.Sheet.{less-trans, less-same, less_asym, less_up, good-parts, before-set, decode-encode}
+use Rattle.rules.proofs.Laws.Bool.{and_i, and_l, and_r}
+use Rattle.rules.proofs.Laws.Sheet.{less-trans, less-same, less_asym, less_up, good-parts, before-set, decode-encode}
 use Rattle.sheet.specs.Parts.{Part, part_slice}
 use Rattle.sheet.specs.Items.{At, join, encode-join}
 use Rattle.sheet.specs.Order.{order_of, order-less}

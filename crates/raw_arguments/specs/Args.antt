@@ -12,7 +12,7 @@ use Rattle.rules.specs.Bytes.{blank, letter, word, run_byte, underscored}
 use Rattle.rules.specs.Sheet.{Lookup, text_of}
 use Rattle.rules.specs.Strings.{literal, reference}
 use Rattle.rules.specs.Expansion.{Arguments, stalled, arguments, Round, lang_value, block_value, argument_value, argument_round}
-use Rattle.rules.specs.Laws.Enough.{rounds-again, rounds-stop, argument_moving}
+use Rattle.rules.proofs.Laws.Enough.{rounds-again, rounds-stop, argument_moving}
 use Rattle.scan.specs.Sets.{byte_is, part, Spans, Sees}
 use Rattle.scan.specs.Laws.{seen, sees-the, seen-byte, skip_at, Spanning, spanning-on, spanning-off, spanning-end}
 use Rattle.scan.specs.Laws.{tail-part}

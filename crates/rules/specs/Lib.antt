@@ -17,4 +17,3 @@ pub mod Calls
 pub mod Parts
 pub mod Manual
 pub mod Compute
-pub mod Laws

@@ -15,7 +15,7 @@ use Rattle.rules.specs.Includes.{inside_file, include_step, includes}
 use Rattle.rules.specs.Pass.{middle_text}
 use Rattle.rules.specs.Calls.{padded, output_answer, resolve_includes_result, resolve_includes_of}
 use Rattle.bundle.specs.Find.{entries_of}
-use Rattle.rules.specs.Laws.Limit.{limited-text}
+use Rattle.rules.proofs.Laws.Limit.{limited-text}
 use Rattle.buffers.specs.Emits.{limited-guarded, guarded-emitted}
 use Rattle.includes.specs.Resolve.{Resolves}
 use Rattle.arguments.specs.Given.{given, given-then, GoodArguments, good-given, Judges}

@@ -15,8 +15,8 @@ use Rattle.rules.specs.Includes.{include_step, inside_file}
 use Rattle.rules.specs.Expansion.{expansion}
 use Rattle.rules.specs.Pass.{expanded, passed, closed}
 use Rattle.rules.specs.Calls.{Setting, limit, zeros, padded, passed_answer, closed_in, closed_of, pass_result, pass_of}
-use Rattle.rules.specs.Laws.Bool.{true-some}
-use Rattle.rules.specs.Laws.Middle.{middle-plain}
+use Rattle.rules.proofs.Laws.Bool.{true-some}
+use Rattle.rules.proofs.Laws.Middle.{middle-plain}
 use Rattle.bundle.specs.Find.{entries_of, entries-some}
 use Rattle.includes.specs.Resolve.{Resolves}
 use Rattle.scan.specs.Laws.{ends_last}

@@ -10,7 +10,7 @@ use Rattle.std.proofs.Math.Nat.{add-zero}
 use native.Mathlib.Omega.{arith}
 use Rattle.std.proofs.Math.ListN.{length}
 use Rattle.rules.specs.Reader.{all}
-use Rattle.rules.specs.Laws.Bool.{and_l, and_r}
+use Rattle.rules.proofs.Laws.Bool.{and_l, and_r}
 use Rattle.scan.specs.Laws.{Spanning, spanning-on}
 
 -- good says whether the first i bytes of u all have p

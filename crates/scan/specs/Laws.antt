@@ -14,7 +14,7 @@ use Rattle.std.proofs.Math.Seq.{drop-cons, take-nil, take-append_seam}
 use borrow.Author.Tests.{lt-ltb, le-ltb, eq-eqb, ne_eqb, eqb-true, eqb-false, not-true as negated-true, not-false as negated-false}
 use Rattle.rules.specs.Reader.{the, but, all, empty, span, sees, skip, prefix, same, mark}
 use Rattle.rules.specs.Run.{ends_in_newline}
-use Rattle.rules.specs.Laws.Bool.{and_l, and_r, and_i, not-true}
+use Rattle.rules.proofs.Laws.Bool.{and_l, and_r, and_i, not-true}
 use Rattle.scan.specs.Sets.{byte_is, Spans, Sees, Starts, Stands, Skips}
 
 module _ (p : ℕ → Bool) (t : List ℕ) (i : ℕ) where

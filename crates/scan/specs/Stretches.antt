@@ -3,8 +3,8 @@ use Rattle.std.specs.Prelude.{◌≡◌, refl, List, [], ◌∷◌, Bool, true, 
 use Rattle.std.proofs.Common.{sym, ap, ◌∙◌, arith, length-drop, take-append-drop, drop-cons, drop-drop, length-take-le, get_or-take, get_or-drop}
 use Prim.Native.Char.{Char, code}
 use Rattle.rules.specs.Reader.{all, but, span}
-use Rattle.rules.specs.Laws.Bool.{and_l, and_r, and_i}
-use Rattle.rules.specs.Laws.Texts.{all_left, all_right}
+use Rattle.rules.proofs.Laws.Bool.{and_l, and_r, and_i}
+use Rattle.rules.proofs.Laws.Texts.{all_left, all_right}
 use Rattle.scan.specs.Sets.{part, Spans, not_byte}
 use Rattle.scan.specs.Laws.{drop-take}
 

@@ -1,11 +1,13 @@
 // Byte classes, stretches and marks (document 01, section 1). This is the only crate that looks at a byte's class.
+#![tactic(auto)]
+
 ghost use Rattle.std.specs.Prelude.{◌≡◌, ◌+◌, ◌≤◌, length, take, drop};
 ghost use Rattle.rules.specs.Reader.{all, same};
 ghost use Rattle.rules.specs.Bytes.{ascii, blank, letter, word};
 ghost use Rattle.scan.specs.Sets.{member, byte_is, not_byte, Spans, Sees, Starts, Skips};
 
 // The sets of bytes that are scanned for; `member` of specs/Sets says what each holds.
-#[derive(Drop)]
+#[derive(Clone, Copy)]
 pub enum Set {
     Blank,
     LineBlank,

@@ -8,7 +8,7 @@ use Rattle.scan.specs.Sets.{part}
 use Rattle.rules.specs.Reader.{same}
 use Rattle.rules.specs.Bytes.{word, less}
 use Rattle.rules.specs.Sheet.{Value, text, nothing, dictionary, Records, end, rec, encode, count, before, good_records, get, kind_of, text_of}
-use Rattle.rules.specs.Laws.Sheet.{good-parts, less-trans}
+use Rattle.rules.proofs.Laws.Sheet.{good-parts, less-trans}
 use Rattle.sheet.specs.Parts.{Part, part-split, part_slice}
 use Rattle.sheet.specs.Heads.{shape_kind, shape_text}
 use Rattle.sheet.specs.Items.{At, Describes, Holding, Has, lead, inner, encode-join}

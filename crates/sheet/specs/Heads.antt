@@ -12,8 +12,8 @@ use Rattle.std.proofs.lemmas.Bool.{eqb-false}
 use Rattle.scan.specs.Sets.{part}
 use Rattle.rules.specs.Reader.{empty}
 use Rattle.rules.specs.Layout.{Parser, bind, ◌>>=◌, ◌>>◌, pure, broken, require, bit, byte, word16, take_bytes, field, field_if}
-use Rattle.rules.specs.Laws.Bool.{or_elim, or-false-l, or-false-r}
-use Rattle.rules.specs.Laws.Layout.{word-at, word_end, takes, takes-short, take-some}
+use Rattle.rules.proofs.Laws.Bool.{or_elim, or-false-l, or-false-r}
+use Rattle.rules.proofs.Laws.Layout.{word-at, word_end, takes, takes-short, take-some}
 use Rattle.sheet.specs.declared.head.Head.{Head}
 use Rattle.sheet.specs.declared.head.Head.TheVariants.{Bad, Record}
 use Rattle.sheet.specs.declared.head.Item.{Item}

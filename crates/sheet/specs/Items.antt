@@ -7,7 +7,7 @@ use Rattle.std.proofs.Math.ListN.{drop}
 use Rattle.scan.specs.Sets.{part}
 use Rattle.rules.specs.Layout.{bind, ◌>>=◌, ◌>>◌, pure, byte}
 use Rattle.rules.specs.Sheet.{Value, text, nothing, dictionary, Records, end, rec, field_bytes, field_mask, count, value_mask, value_bytes, encode}
-use Rattle.rules.specs.Laws.Sheet.{word16-read, field-read, map-byte, name-read, count-le}
+use Rattle.rules.proofs.Laws.Sheet.{word16-read, field-read, map-byte, name-read, count-le}
 use Rattle.sheet.specs.Parts.{Part, slice-part, part_of}
 use Rattle.sheet.specs.Heads.{Shape, plain, absent, holding, shape_kind, shape_text, shape_count, shape, head, IsItem, Reads}
 use Rattle.sheet.specs.declared.head.Head.{Head}

@@ -8,8 +8,8 @@ use Rattle.rules.specs.Reader.{all, but, the}
 use Rattle.rules.specs.Bytes.{word, name_byte, split, prepend}
 use Rattle.rules.specs.Layout.{bind}
 use Rattle.rules.specs.Sheet.{Value, text, nothing, dictionary, Records, encode, good_records, good_value, get, get_fields, get_pieces, resolve}
-use Rattle.rules.specs.Laws.Bool.{and_l, and_r}
-use Rattle.rules.specs.Laws.Sheet.{get-good}
+use Rattle.rules.proofs.Laws.Bool.{and_l, and_r}
+use Rattle.rules.proofs.Laws.Sheet.{get-good}
 use Rattle.scan.specs.Sets.{Spans, part}
 use Rattle.scan.specs.Laws.{but-yes, but-no}
 use Rattle.scan.specs.Stretches.{span-took, spans-stop}

@@ -10,8 +10,8 @@ use borrow.Author.Tests.{eq-eqb, ne_eqb, eqb-true, lt-ltb, le-ltb, ltb-true, ltb
 use Rattle.scan.specs.Sets.{part}
 use Rattle.rules.specs.Reader.{the, but, all, same}
 use Rattle.rules.specs.Bytes.{less, underscored}
-use Rattle.rules.specs.Laws.Sheet.{less-same, less_irrefl, same_refl, same_eq}
-use Rattle.rules.specs.Laws.Bool.{not-true}
+use Rattle.rules.proofs.Laws.Sheet.{less-same, less_irrefl, same_refl, same_eq}
+use Rattle.rules.proofs.Laws.Bool.{not-true}
 
 -- A byte as it is asked for: in a reference `-` is made `_`.
 unfoldable pub underscore_if : Bool → ℕ → ℕ

@@ -13,7 +13,7 @@ use Rattle.rules.specs.Reader.{ret, if_r, ◌>>=◌, ◌>>◌, the, but, either,
 use Rattle.rules.specs.Bytes.{line_blank, letter, run_byte, underscored}
 use Rattle.rules.specs.Sheet.{Lookup, text_of}
 use Rattle.rules.specs.Strings.{escape, onto, literal_from, literal, reference, plus, expression_round, expression}
-use Rattle.rules.specs.Laws.Enough.{rounds-again, rounds-stop, expression-moving}
+use Rattle.rules.proofs.Laws.Enough.{rounds-again, rounds-stop, expression-moving}
 use Rattle.scan.specs.Laws.{seen, skip_at, tail-part}
 use Rattle.scan.specs.Stretches.{span-stops}
 use Rattle.scan.specs.Sets.{part, plain_byte, Spans, Sees}

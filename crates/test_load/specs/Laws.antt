@@ -9,7 +9,7 @@ use Rattle.std.proofs.lemmas.Bool.{lt-leb}
 use Rattle.rules.specs.Answer.{check, ◌>>◌}
 use Rattle.rules.specs.Load.{next, draw, piece_count, concat, pieces_from, pieces, load, list_of}
 use Rattle.rules.specs.Calls.{zeros, padded, output_answer, test_load_result, test_load_of}
-use Rattle.rules.specs.Laws.Bool.{and_l, and_r, true-leb}
+use Rattle.rules.proofs.Laws.Bool.{and_l, and_r, true-leb}
 use Rattle.scan.specs.Sets.{part}
 use Rattle.buffers.specs.Put.{Writer, Put}
 use Rattle.buffers.specs.Laws.{put-none, put-writer, put-length, put_then, put-fits, put-not, stored-first}

@@ -11,8 +11,8 @@ use Rattle.rules.specs.Reader.{Reader, ret, if_r, ◌>>=◌, ◌>>◌, bytes, bu
 use Rattle.rules.specs.Bytes.{blank, line_blank, letter, name_byte}
 use Rattle.rules.specs.Sheet.{Value, nothing, dictionary, Records, end, encode, field_bytes, word16_bytes, value_length, Lookup, resolve, set}
 use Rattle.rules.specs.Definitions.{text_value, value, grown, entry_round, dictionary_value}
-use Rattle.rules.specs.Laws.Enough.{Moving, rounds-again, rounds-stop}
-use Rattle.rules.specs.Laws.Entries.{shrinks-dictionary, entry-moving}
+use Rattle.rules.proofs.Laws.Enough.{Moving, rounds-again, rounds-stop}
+use Rattle.rules.proofs.Laws.Entries.{shrinks-dictionary, entry-moving}
 use Rattle.scan.specs.Sets.{part, Spans, Sees, Starts, byte_is, not_byte}
 use Rattle.scan.specs.Laws.{sees-the, mark-yes, mark-no}
 use Rattle.scan.specs.Stretches.{spans-but}

@@ -11,7 +11,7 @@ use Rattle.rules.specs.Reader.{Reader, ret, ◌>>=◌}
 use Rattle.rules.specs.Sheet.{Value, text, nothing, dictionary, Records, encode, field_bytes, word16_bytes, value_length, Lookup, resolve}
 use Rattle.rules.specs.Strings.{expression}
 use Rattle.rules.specs.Definitions.{measured, text_value}
-use Rattle.rules.specs.Laws.Bool.{or_elim, or-false-l, or-false-r}
+use Rattle.rules.proofs.Laws.Bool.{or_elim, or-false-l, or-false-r}
 use Rattle.scan.specs.Sets.{Skips}
 use Rattle.scan.specs.Laws.{tail-part}
 use Rattle.buffers.specs.Laws.{put-length, put-fits, put-not, stored-first}

@@ -16,14 +16,14 @@ use Rattle.rules.specs.Files.{View, File, absent, folder, file}
 use Rattle.rules.specs.Sheet.{Value, Records, end, rec, encode, sheet_length, good_value, good_records, resolve, set}
 use Rattle.rules.specs.Definitions.{Names, star, listed, definition_step}
 use Rattle.rules.specs.Imports.{bind_one, bind_if, bind_all, bind_listed, bind_names, import_file, imported, file_sheet, imported_sheet, definitions}
-use Rattle.rules.specs.Laws.Bool.{and_l, and_r, and_i, leb-true}
-use Rattle.rules.specs.Laws.Answer.{accepted-same, check_inv, bind_inv}
-use Rattle.rules.specs.Laws.Numbers.{numbered, numbered_e, numbered_t, limited-numbered}
-use Rattle.rules.specs.Laws.Limit.{limited-text}
-use Rattle.rules.specs.Laws.Texts.{all_tail}
-use Rattle.rules.specs.Laws.Keep.{run-keeps}
-use Rattle.rules.specs.Laws.Sheet.{good-parts, resolve-good, set-good, Kept}
-use Rattle.rules.specs.Laws.Values.{numbered_or, Reads, did_has, sheet_good, of_words, reads_definition}
+use Rattle.rules.proofs.Laws.Bool.{and_l, and_r, and_i, leb-true}
+use Rattle.rules.proofs.Laws.Answer.{accepted-same, check_inv, bind_inv}
+use Rattle.rules.proofs.Laws.Numbers.{numbered, numbered_e, numbered_t, limited-numbered}
+use Rattle.rules.proofs.Laws.Limit.{limited-text}
+use Rattle.rules.proofs.Laws.Texts.{all_tail}
+use Rattle.rules.proofs.Laws.Keep.{run-keeps}
+use Rattle.rules.proofs.Laws.Sheet.{good-parts, resolve-good, set-good, Kept}
+use Rattle.rules.proofs.Laws.Values.{numbered_or, Reads, did_has, sheet_good, of_words, reads_definition}
 
 -- ANSWERS: refused with a number of section 8, or accepted with what has p.
 module _ {A : Type 0} (p : A → Bool) where

@@ -15,7 +15,7 @@ use Rattle.rules.specs.Bytes.{ascii, letter, digit, word, run_byte, underscored,
 use Rattle.rules.specs.Sheet.{Value, text, nothing, dictionary, Records, sheet_of, get, get_fields, get_pieces, resolve, kind_of, text_of}
 use Rattle.rules.specs.Strings.{reference}
 use Rattle.rules.specs.Expansion.{writes, reference_step}
-use Rattle.rules.specs.Laws.Bool.{and_l, and_r, not-true, true-eqb}
+use Rattle.rules.proofs.Laws.Bool.{and_l, and_r, not-true, true-eqb}
 use Rattle.rules.specs.Calls.{zeros, padded, Looked, looked_answer, resolve_result, resolve_of}
 
 module _ (sheet path : List ℕ) (n : ℕ) (s : Records) (h : sheet_of sheet ≡ some s) where

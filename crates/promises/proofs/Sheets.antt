@@ -4,7 +4,7 @@ use Rattle.std.proofs.Math.Option.{some}
 use Rattle.rules.specs.Reader.{all, same}
 use Rattle.rules.specs.Bytes.{is_byte, word}
 use Rattle.rules.specs.Sheet.{Value, Records, encode, good_records, sheet_of, get, set}
-use Rattle.rules.specs.Laws.Sheet.{sheet-encode, sheet_canonical, get_set, get_set_other}
+use Rattle.rules.proofs.Laws.Sheet.{sheet-encode, sheet_canonical, get_set, get_set_other}
 
 -- Records that keep the layout, at most 65,535 bytes of them, are read back from their bytes.
 pub read_back : (s : Records) → good_records s word 6 ≡ true → length (encode s) ≤ 65535 → sheet_of (encode s) ≡ some s

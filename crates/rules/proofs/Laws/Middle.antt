@@ -11,9 +11,9 @@ use Rattle.rules.specs.Run.{Emit, ok, put, fail, and_then, pieces, Did, Step, ru
 use Rattle.rules.specs.Bytes.{ascii, blank, trim, join}
 use Rattle.rules.specs.Files.{View, fetch, plain, opened}
 use Rattle.rules.specs.Includes.{Quoted, unquoted, quoted, quoted_if, quote, Source, no_paren, no_path, no_language, source, with_language, with_path, source_arguments, to_newline, last_newline, fenced, wrote, copied, copy_byte, included, include_of, include_mark, source_text, source_of, source_mark, include_step, inside_file, includes}
-use Rattle.rules.specs.Laws.Bool.{and_l, and_r, and_i}
-use Rattle.rules.specs.Laws.Answer.{accepted-same, check_inv, bind_inv}
-use Rattle.rules.specs.Laws.Texts.{all_append, all_tail, span-all, Clean, clean-span, clean-sees, clean-mark, clean-skip, clean-ret, clean-bind, clean-then}
+use Rattle.rules.proofs.Laws.Bool.{and_l, and_r, and_i}
+use Rattle.rules.proofs.Laws.Answer.{accepted-same, check_inv, bind_inv}
+use Rattle.rules.proofs.Laws.Texts.{all_append, all_tail, span-all, Clean, clean-span, clean-sees, clean-mark, clean-skip, clean-ret, clean-bind, clean-then}
 
 unfoldable plain_e : Emit → Bool
 plain_e ok = true

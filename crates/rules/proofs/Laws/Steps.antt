@@ -10,9 +10,9 @@ use Prim.Native.Nat.{ℕ, zero, suc, ◌-◌, ◌≤◌}
 use Rattle.std.proofs.Math.ListN.{length, length-append}
 use Rattle.rules.specs.Reader.{Reader, ret, if_r, ◌>>=◌, ◌>>◌, the, empty, sees, skip, mark}
 use Rattle.rules.specs.Run.{unrefused, Did, Step, step, run, all_whole, ends_in_newline}
-use Rattle.rules.specs.Laws.Bool.{and_l, and_r}
-use Rattle.rules.specs.Laws.Limit.{join_runs}
-use Rattle.rules.specs.Laws.Read.{Some, newline-tail, Good, Line, good-ret, good_if, good-bind, good-then, good-skip, good-span, good-literal, line-sees, line-mark, inline}
+use Rattle.rules.proofs.Laws.Bool.{and_l, and_r}
+use Rattle.rules.proofs.Laws.Limit.{join_runs}
+use Rattle.rules.proofs.Laws.Read.{Some, newline-tail, Good, Line, good-ret, good_if, good-bind, good-then, good-skip, good-span, good-literal, line-sees, line-mark, inline}
 
 pub good-sees : (p : ℕ → Bool) → Good (sees p)
 good-sees p = (line-sees p).good

@@ -8,8 +8,8 @@ use Rattle.std.proofs.Math.Nat.{dvd-mul_right, mod-mod_of_dvd, mod-add-mod, mod-
 use Rattle.std.proofs.Math.Arith.{mod-mul}
 use Rattle.rules.specs.Reader.{all}
 use Rattle.rules.specs.Load.{wrap, next, draw, piece_count, concat, pieces_from, pieces, load}
-use Rattle.rules.specs.Laws.Bool.{and_l, and_r, and_i, true-leb}
-use Rattle.rules.specs.Laws.Texts.{all_append}
+use Rattle.rules.proofs.Laws.Bool.{and_l, and_r, and_i, true-leb}
+use Rattle.rules.proofs.Laws.Texts.{all_append}
 
 -- COUNTS.
 pub count-bound : (seed : ℕ) → (1 ≤ piece_count seed) × (piece_count seed ≤ 32)

@@ -13,8 +13,8 @@ use Rattle.rules.specs.Reader.{all, empty, prefix, same}
 use Rattle.rules.specs.Bytes.{is_byte, ascii, word, name_byte, less, split}
 use Rattle.rules.specs.Layout.{Parser, bind, ◌>>=◌, ◌>>◌, pure, broken, require, bit, byte, word16, take_bytes, field, field_if}
 use Rattle.rules.specs.Sheet.{Value, text, nothing, dictionary, Records, end, rec, word16_bytes, field_bytes, field_mask, count, value_mask, value_bytes, encode, sheet_length, value, one_record, some_records, all_records, levels, decode, before, good_value, good_records, sheet_of, get, get_fields, get_pieces, resolve, text_of, set}
-use Rattle.rules.specs.Laws.Bool.{and_l, and_r, and_i, and_false_r, or-i-l, or-i-r, or_elim, or-false-l, or-false-r, not-true, true-leb, leb-true, true-ltb, ltb-true, false-ltb, true-eqb, eqb-true, false-eqb}
-use Rattle.rules.specs.Laws.Texts.{all_right}
+use Rattle.rules.proofs.Laws.Bool.{and_l, and_r, and_i, and_false_r, or-i-l, or-i-r, or_elim, or-false-l, or-false-r, not-true, true-leb, leb-true, true-ltb, ltb-true, false-ltb, true-eqb, eqb-true, false-eqb}
+use Rattle.rules.proofs.Laws.Texts.{all_right}
 
 -- THE ORDER OF NAMES.
 -- Of two names that are not empty: by their first bytes, or, where these are equal, by the rest.

@@ -11,10 +11,10 @@ use Rattle.rules.specs.Bytes.{ascii, word, name_byte, underscored}
 use Rattle.rules.specs.Sheet.{Value, dictionary, Records, end, set, value_length, good_value, good_records, Lookup, resolve, text_of}
 use Rattle.rules.specs.Strings.{escape, onto, literal_from, literal, reference, plus, expression_round, expression}
 use Rattle.rules.specs.Definitions.{measured, text_value, value, grown, entry_round, dictionary_value, Names, star, listed, listed_more, word_round, names, bound, let_bound, import_step, let_step, definition_step}
-use Rattle.rules.specs.Laws.Bool.{and_l, and_r, and_i}
-use Rattle.rules.specs.Laws.Numbers.{numbered_e}
-use Rattle.rules.specs.Laws.Texts.{all_append, span-all, Clean, clean-span, clean-sees, clean-mark, clean-skip, underscored-words}
-use Rattle.rules.specs.Laws.Sheet.{set-good, resolve-ascii}
+use Rattle.rules.proofs.Laws.Bool.{and_l, and_r, and_i}
+use Rattle.rules.proofs.Laws.Numbers.{numbered_e}
+use Rattle.rules.proofs.Laws.Texts.{all_append, span-all, Clean, clean-span, clean-sees, clean-mark, clean-skip, underscored-words}
+use Rattle.rules.proofs.Laws.Sheet.{set-good, resolve-ascii}
 
 -- What has P on both sides of a test has it.
 if_has : {A : Type 0} (P : A → Type 0) (c : Bool) {a b : A} → P a → P b → P (elim c [ true ↦ a | false ↦ b ])

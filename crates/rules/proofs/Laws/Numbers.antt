@@ -12,7 +12,7 @@ use Rattle.rules.specs.Reader.{all}
 use Rattle.rules.specs.Run.{Emit, ok, put, fail, and_then, Step, Trace, fin, step, run, emitted, write, limited}
 use Rattle.rules.specs.Bytes.{ascii, is_path}
 use Rattle.rules.specs.Files.{View, File, absent, folder, file, content_of, fetch, plain, opened}
-use Rattle.rules.specs.Laws.Bool.{and_l, and_r, and_i}
+use Rattle.rules.proofs.Laws.Bool.{and_l, and_r, and_i}
 
 module _ {A : Type 0} where
   unfoldable pub numbered : Answer A → Bool

@@ -15,8 +15,8 @@ use Rattle.rules.specs.Bytes.{blank, line_blank, letter, digit, word, name_byte,
 use Rattle.rules.specs.Sheet.{Value, nothing, dictionary, Records, end, Lookup}
 use Rattle.rules.specs.Strings.{reference, plus, expression_round, expression}
 use Rattle.rules.specs.Definitions.{text_value, value, entry_round, dictionary_value, listed, word_round}
-use Rattle.rules.specs.Laws.Bool.{or_elim, or-false-r, true-eqb}
-use Rattle.rules.specs.Laws.Enough.{Moving, Shrinks, Moves, moves-stop, moves-then, shrinks-ret, shrinks-span, shrinks-skip, shrinks-reference, shrink}
+use Rattle.rules.proofs.Laws.Bool.{or_elim, or-false-r, true-eqb}
+use Rattle.rules.proofs.Laws.Enough.{Moving, Shrinks, Moves, moves-stop, moves-then, shrinks-ret, shrinks-span, shrinks-skip, shrinks-reference, shrink}
 
 -- READERS leave no more text than there was
 shrinks-mark-at : (m t : List ℕ) (c : Bool) → prefix m t ≡ c → length (mark m t).1 ≤ length t

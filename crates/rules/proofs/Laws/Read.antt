@@ -9,7 +9,7 @@ use Rattle.std.proofs.Math.Dec.{eqb→eq}
 use Rattle.rules.specs.Reader.{Reader, ret, if_r, ◌>>=◌, ◌>>◌, the, span, sees, skip, prefix, mark, Turn, again, stop, loop, rounds}
 use Rattle.rules.specs.Run.{ends_in_newline}
 use Rattle.rules.specs.Strings.{escape, onto, literal_from, literal}
-use Rattle.rules.specs.Laws.Bool.{and_l, and_r}
+use Rattle.rules.proofs.Laws.Bool.{and_l, and_r}
 
 -- There is a byte.
 abbrev pub Some : List ℕ → Type 0

@@ -11,11 +11,11 @@ use Rattle.rules.specs.Sheet.{Records, sheet_length}
 use Rattle.rules.specs.Includes.{include_step, inside_file, includes}
 use Rattle.rules.specs.Expansion.{expansion}
 use Rattle.rules.specs.Pass.{middle_text, expanded, passed, closed}
-use Rattle.rules.specs.Laws.Bool.{and_l, and_r}
-use Rattle.rules.specs.Laws.Answer.{bind_inv, bind-accepted}
-use Rattle.rules.specs.Laws.Limit.{limited_mono, limited-split, limited-text}
-use Rattle.rules.specs.Laws.Expansion.{expansion-append}
-use Rattle.rules.specs.Laws.Includes.{includes-append, includes-sealed}
+use Rattle.rules.proofs.Laws.Bool.{and_l, and_r}
+use Rattle.rules.proofs.Laws.Answer.{bind_inv, bind-accepted}
+use Rattle.rules.proofs.Laws.Limit.{limited_mono, limited-split, limited-text}
+use Rattle.rules.proofs.Laws.Expansion.{expansion-append}
+use Rattle.rules.proofs.Laws.Includes.{includes-append, includes-sealed}
 
 module _ (v : View) where
   -- Includes of a ++ c.

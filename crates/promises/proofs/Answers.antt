@@ -16,12 +16,12 @@ use Rattle.rules.specs.Includes.{include_step, inside_file}
 use Rattle.rules.specs.Expansion.{expansion_step}
 use Rattle.rules.specs.Manual.{built, shown, manual, manual_of}
 use Rattle.rules.specs.Parts.{sheet_left}
-use Rattle.rules.specs.Laws.Calls.{refused_form, number_form, parse_definitions_holds, parse_definitions_work, parse_definitions_sheet, resolve-numbered, resolve_includes_numbered, test_load_numbered, preprocess_typst_numbered, parse_definitions_numbered, resolve-holds, resolve_includes_holds, test_load_holds, preprocess_typst_holds, preprocess_typst_sheet, pass_holds, pass_middle, pass_closed, find_refused, find_known, pass_sheet}
-use Rattle.rules.specs.Laws.Found.{found-there, found_inside}
-use Rattle.rules.specs.Laws.Manual.{manual-holds}
-use Rattle.rules.specs.Laws.Parts.{result_numbered}
-use Rattle.rules.specs.Laws.Order.{resolve-order, find_file_order, resolve_includes_order, preprocess_typst_order, parse_definitions_order, pass_order}
-use Rattle.rules.specs.Laws.Once.{refused_alone, expansion-once, include_step-whole}
+use Rattle.rules.proofs.Laws.Calls.{refused_form, number_form, parse_definitions_holds, parse_definitions_work, parse_definitions_sheet, resolve-numbered, resolve_includes_numbered, test_load_numbered, preprocess_typst_numbered, parse_definitions_numbered, resolve-holds, resolve_includes_holds, test_load_holds, preprocess_typst_holds, preprocess_typst_sheet, pass_holds, pass_middle, pass_closed, find_refused, find_known, pass_sheet}
+use Rattle.rules.proofs.Laws.Found.{found-there, found_inside}
+use Rattle.rules.proofs.Laws.Manual.{manual-holds}
+use Rattle.rules.proofs.Laws.Parts.{result_numbered}
+use Rattle.rules.proofs.Laws.Order.{resolve-order, find_file_order, resolve_includes_order, preprocess_typst_order, parse_definitions_order, pass_order}
+use Rattle.rules.proofs.Laws.Once.{refused_alone, expansion-once, include_step-whole}
 
 -- CLOSED. The answer says closed exactly when the pass is accepted and the text is closed.
 pub closed_exactly : (k : Setting) (sheet text : List ℕ) → ((pass_of k sheet text).closed ≡ true) ↔ (((pass_of k sheet text).number ≡ 0) × (closed_of k sheet text ≡ true))

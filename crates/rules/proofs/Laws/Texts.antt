@@ -5,7 +5,7 @@ use mathlib.Core.List.{List, [], ◌∷◌, ◌++◌}
 use Rattle.std.proofs.Math.Bool.{true, false}
 use Rattle.rules.specs.Reader.{Reader, ret, ◌>>=◌, ◌>>◌, the, all, empty, prefix, span, sees, skip, mark}
 use Rattle.rules.specs.Bytes.{blank, letter, digit, word, name_byte, underscored, trim_end, trim}
-use Rattle.rules.specs.Laws.Bool.{and_l, and_r, and_i, or_l}
+use Rattle.rules.proofs.Laws.Bool.{and_l, and_r, and_i, or_l}
 
 pub all_append : {A : Type 0} (q : A → Bool) (a b : List A) → all q a ≡ true → all q b ≡ true → all q (a ++ b) ≡ true
 unfolding all

@@ -12,9 +12,9 @@ use Rattle.rules.specs.Bytes.{ascii, word, name_byte, line_blank, underscored, t
 use Rattle.rules.specs.Files.{View}
 use Rattle.rules.specs.Sheet.{Records, resolve, set}
 use Rattle.rules.specs.Expansion.{Call, hands_back, refuses, outputs, let_value, writes, binds, call_did, calling, call_step, import_step, let_step, reference_step, copy_step, expansion_step, expansion}
-use Rattle.rules.specs.Laws.Answer.{accepted-same}
-use Rattle.rules.specs.Laws.Limit.{limited_inv}
-use Rattle.rules.specs.Laws.Texts.{all_tail, span-all, Clean, clean-span, clean-sees, clean-mark, clean-skip, trim-all, underscored-words}
+use Rattle.rules.proofs.Laws.Answer.{accepted-same}
+use Rattle.rules.proofs.Laws.Limit.{limited_inv}
+use Rattle.rules.proofs.Laws.Texts.{all_tail, span-all, Clean, clean-span, clean-sees, clean-mark, clean-skip, trim-all, underscored-words}
 
 -- A step keeps P, where the sheet after it is at most L bytes.
 module _ {S : Type 0} (size : S → ℕ) (L full : ℕ) (f : Step S) (P : S → Type 0)

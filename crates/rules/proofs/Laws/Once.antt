@@ -16,7 +16,7 @@ use Rattle.rules.specs.Files.{View, fetch, plain, opened}
 use Rattle.rules.specs.Includes.{commented, Quoted, unquoted, quoted, quote, Source, no_paren, no_path, no_language, source, source_arguments, to_newline, fenced, wrote, copied, copy_byte, included, include_of, include_mark, source_of, source_mark, include_step, inside_file}
 use Rattle.rules.specs.Sheet.{Records}
 use Rattle.rules.specs.Expansion.{Call, hands_back, refuses, outputs, writes, binds, call_did, calling, call_step, import_step, let_step, reference_step, copy_step, expansion_step}
-use Rattle.rules.specs.Laws.Refusals.{Yields, yields_if, yields-bind, yields-then}
+use Rattle.rules.proofs.Laws.Refusals.{Yields, yields_if, yields-bind, yields-then}
 
 -- At most one piece, and no refusal behind it.
 unfoldable pub once : Emit → Bool

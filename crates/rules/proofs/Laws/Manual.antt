@@ -7,8 +7,8 @@ use Rattle.rules.specs.Bundle.{bundle_of}
 use Rattle.rules.specs.Files.{view, fetch}
 use Rattle.rules.specs.Calls.{Holds, Passed, parse_definitions_of, pass_of}
 use Rattle.rules.specs.Manual.{decimal, answered, sheet_from, output_from, setting, built, shown, manual, manual_of}
-use Rattle.rules.specs.Laws.Answer.{not-both, accepted-same, check_inv, bind_inv}
-use Rattle.rules.specs.Laws.Calls.{holds-padded, pass_holds}
+use Rattle.rules.proofs.Laws.Answer.{not-both, accepted-same, check_inv, bind_inv}
+use Rattle.rules.proofs.Laws.Calls.{holds-padded, pass_holds}
 
 -- A refusal's text.
 decimal-short : (k : ℕ) (c : Bool) → ltb k 10 ≡ c → length (decimal k) ≤ 2

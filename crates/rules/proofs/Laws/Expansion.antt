@@ -11,9 +11,9 @@ use Rattle.rules.specs.Files.{View}
 use Rattle.rules.specs.Sheet.{Records, Lookup}
 use Rattle.rules.specs.Strings.{reference, plus, expression_round, expression}
 use Rattle.rules.specs.Expansion.{Call, hands_back, refuses, outputs, Content, handed_back, no_content, given, read_call, content, Arguments, stalled, arguments, lang_value, block_value, argument_value, argument_round, raw_end, raw_arguments, raw, link_content_block, link_end, link, call_did, calling, call_step, import_step, let_step, reference_step, copy_step, expansion_step, expansion}
-use Rattle.rules.specs.Laws.Limit.{join_runs}
-use Rattle.rules.specs.Laws.Read.{Some, newline-tail, Good, good-bind, good-skip, good-span, good-rounds, line-span, line-sees, line-mark, inline}
-use Rattle.rules.specs.Laws.Steps.{goods, good-sees, good-mark, Steps, steps-ret, steps-skip, steps_if, steps-bind, steps_then, run-append, Sure, sure-no, sure_if, sure-bind, sure-then, sure_close, surein-sure, surein-ret, surein_if, surein-bind, surein-then, sure-over, some-not, empty-append}
+use Rattle.rules.proofs.Laws.Limit.{join_runs}
+use Rattle.rules.proofs.Laws.Read.{Some, newline-tail, Good, good-bind, good-skip, good-span, good-rounds, line-span, line-sees, line-mark, inline}
+use Rattle.rules.proofs.Laws.Steps.{goods, good-sees, good-mark, Steps, steps-ret, steps-skip, steps_if, steps-bind, steps_then, run-append, Sure, sure-no, sure_if, sure-bind, sure-then, sure_close, surein-sure, surein-ret, surein_if, surein-bind, surein-then, sure-over, some-not, empty-append}
 
 -- Does a call end on its own byte.
 unfoldable ended : Call → Bool

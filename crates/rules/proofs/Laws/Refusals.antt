@@ -12,7 +12,7 @@ use Rattle.rules.specs.Files.{View, fetch, opened}
 use Rattle.rules.specs.Sheet.{Records, Lookup}
 use Rattle.rules.specs.Includes.{Quoted, unquoted, quoted, quote, Source, no_paren, no_path, no_language, source, source_arguments, to_newline, fenced, wrote, copied, copy_byte, included, include_of, include_mark, source_text, source_of, source_mark, include_step, inside_file, includes}
 use Rattle.rules.specs.Expansion.{Call, hands_back, refuses, outputs, Content, handed_back, no_content, given, raw_content, read_call, content, Arguments, stalled, arguments, raw_end, raw_arguments, raw, link_content_block, link_end, link, writes, binds, call_did, calling, call_step, import_step, let_step, reference_step, copy_step, expansion_step, expansion}
-use Rattle.rules.specs.Laws.Numbers.{numbered, numbered_e, numbered_t, numbered_e-and_then, run-numbered, emitted-numbered, numbered-fetch, numbered-opened}
+use Rattle.rules.proofs.Laws.Numbers.{numbered, numbered_e, numbered_t, numbered_e-and_then, run-numbered, emitted-numbered, numbered-fetch, numbered-opened}
 
 -- What a reader answers has q.
 pub record Yields {A : Type 0} (q : A → Bool) (r : Reader A) : Type 0 where

@@ -3,8 +3,8 @@ use Rattle.std.specs.Prelude.{◌≡◌, List, true, ℕ}
 use Rattle.std.proofs.Common.{sym, ◌∙◌}
 use Rattle.rules.specs.Calls.{Setting, pass_of}
 use Rattle.rules.specs.Parts.{passes, joined, closed_parts, all_accepted, outputs, output_of, last_sheet, sheet_left}
-use Rattle.rules.specs.Laws.Parts.{one-is_many, answers}
-use Rattle.rules.specs.Laws.Calls.{pass_accepted}
+use Rattle.rules.proofs.Laws.Parts.{one-is_many, answers}
+use Rattle.rules.proofs.Laws.Calls.{pass_accepted}
 
 -- The passes over the parts p, ps from a sheet, beside one pass over the joined text.
 pub record Agree (k : Setting) (sheet p : List ℕ) (ps : List (List ℕ)) : Type 0 where

@@ -14,8 +14,8 @@ use Rattle.rules.specs.Layout.{Parser, bind, pure, require, bit, remaining, byte
 use Rattle.rules.specs.Layout
 use Rattle.rules.specs.Bundle.{Entry, entry, bundle_of, bundle_parser}
 use Rattle.rules.specs.Files.{view, entry_at, is_folder_of, file_of, content_of, fetch}
-use Rattle.rules.specs.Laws.Bool.{not-true, true-eqb, eqb-true, false-eqb}
-use Rattle.rules.specs.Laws.Sheet.{bind-some}
+use Rattle.rules.proofs.Laws.Bool.{not-true, true-eqb, eqb-true, false-eqb}
+use Rattle.rules.proofs.Laws.Sheet.{bind-some}
 use Rattle.rules.specs.Calls.{Found, found_entry, found_answer, find_file_result, find_file_of}
 
 pub some_same : {A : Type 0} {a b : A} → some a ≡ some b → a ≡ b

@@ -14,10 +14,10 @@ use Rattle.rules.specs.Run.{Emit, unrefused, pieces, Did, Step, run, all_whole, 
 use Rattle.rules.specs.Bytes.{blank}
 use Rattle.rules.specs.Files.{View}
 use Rattle.rules.specs.Includes.{Quoted, unquoted, quoted, quoted_if, quote, Source, no_paren, no_path, no_language, source, with_language, with_path, source_arguments, over_paren, to_newline, behind_source, last_newline, fenced, wrote, copy_byte, include_of, include_mark, source_text, source_of, source_mark, include_step, inside_file, includes}
-use Rattle.rules.specs.Laws.Bool.{and_l, and_r}
-use Rattle.rules.specs.Laws.Limit.{join_runs}
-use Rattle.rules.specs.Laws.Read.{Some, newline-tail, Good, Line, good-skip, good-span, line-mark, inline}
-use Rattle.rules.specs.Laws.Steps.{goods, good-sees, Steps, steps-ret, steps_if, steps-bind, run-append, Sure, sure-no, sure_if, sure-bind, sure-then, sure-map, sure_close, some-not, empty-append}
+use Rattle.rules.proofs.Laws.Bool.{and_l, and_r}
+use Rattle.rules.proofs.Laws.Limit.{join_runs}
+use Rattle.rules.proofs.Laws.Read.{Some, newline-tail, Good, Line, good-skip, good-span, line-mark, inline}
+use Rattle.rules.proofs.Laws.Steps.{goods, good-sees, Steps, steps-ret, steps_if, steps-bind, run-append, Sure, sure-no, sure_if, sure-bind, sure-then, sure-map, sure_close, some-not, empty-append}
 
 unfoldable is_quoted : Quoted → Bool
 is_quoted unquoted = false

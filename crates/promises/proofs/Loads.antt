@@ -8,7 +8,7 @@ use Rattle.rules.specs.Reader.{bytes, all}
 use Rattle.rules.specs.Bytes.{ascii}
 use Rattle.rules.specs.Load.{next, piece_count, concat, pieces, load, document_pieces, definition_pieces, list_of}
 use Rattle.rules.specs.Calls.{padded, zeros, output_answer, test_load_result, test_load_of}
-use Rattle.rules.specs.Laws.Load.{count-bound, count-pieces, load-bound, load-all, load_low}
+use Rattle.rules.proofs.Laws.Load.{count-bound, count-pieces, load-bound, load-all, load_low}
 use Rattle.rules.specs.Compute.{rules}
 
 -- SEED 0: 15 pieces; a document of 57 bytes, definitions of 74. A buffer that is a byte short is 11.

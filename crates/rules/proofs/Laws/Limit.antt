@@ -7,8 +7,8 @@ use Rattle.std.proofs.Math.Nat.{sub-zero}
 use Rattle.std.proofs.Math.ListN.{length, length-append}
 use Rattle.rules.specs.Answer.{accepted, ◌>>=◌, ◌>>◌, check}
 use Rattle.rules.specs.Run.{Emit, ok, put, fail, unrefused, pieces, Did, Trace, fin, step, written, final, write, limited}
-use Rattle.rules.specs.Laws.Bool.{true-leb, leb-true}
-use Rattle.rules.specs.Laws.Answer.{not-both, accepted-same, check_inv, bind_inv}
+use Rattle.rules.proofs.Laws.Bool.{true-leb, leb-true}
+use Rattle.rules.proofs.Laws.Answer.{not-both, accepted-same, check_inv, bind_inv}
 
 -- One run, then another from the state that it left.
 module _ {S : Type 0} where

@@ -18,15 +18,15 @@ use Rattle.rules.specs.Pass.{middle_text, expanded, passed, closed}
 use Rattle.rules.specs.Calls.{Setting, limit, zeros, padded, Holds, Found, found_answer, find_file_result, find_file_of, output_answer, looked_answer, resolve_result, resolve_of, resolve_includes_result, resolve_includes_of, test_load_result, test_load_of, expanded_answer, preprocess_typst_result, preprocess_typst_of, defined_answer, parse_definitions_result, parse_definitions_of, passed_answer, closed_of, pass_result, pass_of}
 use Rattle.rules.specs.Load.{load, list_of}
 use Rattle.rules.specs.Parts.{sheet_left}
-use Rattle.rules.specs.Laws.Bool.{or-i-r, true-leb}
-use Rattle.rules.specs.Laws.Answer.{accepted-same, check_inv, bind_inv, or_refuse_inv}
-use Rattle.rules.specs.Laws.Limit.{limited-fits}
-use Rattle.rules.specs.Laws.Sheet.{sheet-good, Kept}
-use Rattle.rules.specs.Laws.Numbers.{numbered, numbered-accepted, numbered-check, numbered-or_refuse, numbered-then, numbered-bind, limited-numbered, numbered-fetch, zero-accepted}
-use Rattle.rules.specs.Laws.Refusals.{includes-numbered, expansion-numbered}
-use Rattle.rules.specs.Laws.Definitions.{definitions-numbered, definitions-kept}
-use Rattle.rules.specs.Laws.Found.{entry-number}
-use Rattle.rules.specs.Laws.Parts.{kept-sheet, expanded-kept, ran_inv, ran-kept, answers, result_numbered}
+use Rattle.rules.proofs.Laws.Bool.{or-i-r, true-leb}
+use Rattle.rules.proofs.Laws.Answer.{accepted-same, check_inv, bind_inv, or_refuse_inv}
+use Rattle.rules.proofs.Laws.Limit.{limited-fits}
+use Rattle.rules.proofs.Laws.Sheet.{sheet-good, Kept}
+use Rattle.rules.proofs.Laws.Numbers.{numbered, numbered-accepted, numbered-check, numbered-or_refuse, numbered-then, numbered-bind, limited-numbered, numbered-fetch, zero-accepted}
+use Rattle.rules.proofs.Laws.Refusals.{includes-numbered, expansion-numbered}
+use Rattle.rules.proofs.Laws.Definitions.{definitions-numbered, definitions-kept}
+use Rattle.rules.proofs.Laws.Found.{entry-number}
+use Rattle.rules.proofs.Laws.Parts.{kept-sheet, expanded-kept, ran_inv, ran-kept, answers, result_numbered}
 
 -- FORMS. `form` makes a call's answer of its result: a number other than 0 is a refusal, and 0 is an acceptance.
 module _ {A R : Type 0} (form : Answer A → R) (number : R → ℕ) (of-refused : (k : ℕ) → number (form (refused k)) ≡ k) (of-accepted : (a : A) → number (form (accepted a)) ≡ 0) where

@@ -11,10 +11,10 @@ use Rattle.rules.specs.Files.{fetch}
 use Rattle.rules.specs.Sheet.{sheet_of}
 use Rattle.rules.specs.Imports.{definitions, file_sheet}
 use Rattle.rules.specs.Calls.{Setting, limit, resolve_result, find_file_result, find_file_of, resolve_includes_result, preprocess_typst_result, parse_definitions_result, pass_result}
-use Rattle.rules.specs.Laws.Bool.{true-some, false-some, true-eqb, false-eqb}
-use Rattle.rules.specs.Laws.Answer.{not-both}
-use Rattle.rules.specs.Laws.Sheet.{sheet-size}
-use Rattle.rules.specs.Laws.Found.{found_number, found-there, found-absent}
+use Rattle.rules.proofs.Laws.Bool.{true-some, false-some, true-eqb, false-eqb}
+use Rattle.rules.proofs.Laws.Answer.{not-both}
+use Rattle.rules.proofs.Laws.Sheet.{sheet-size}
+use Rattle.rules.proofs.Laws.Found.{found_number, found-there, found-absent}
 
 -- The answer is the first broken rule's, where one is broken.
 pub record Refuses {A : Type 0} (x : Answer A) (rs : List (ℕ × Bool)) : Type 0 where

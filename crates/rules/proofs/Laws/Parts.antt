@@ -18,17 +18,17 @@ use Rattle.rules.specs.Expansion.{let_value}
 use Rattle.rules.specs.Pass.{middle_text, expanded, passed, closed}
 use Rattle.rules.specs.Calls.{Setting, limit, zeros, padded, Passed, passed_answer, closed_in, closed_of, pass_result, pass_of}
 use Rattle.rules.specs.Parts.{output_of, sheet_left, passes, closed_parts, joined, all_accepted, outputs, last_sheet}
-use Rattle.rules.specs.Laws.Bool.{and_l, and_r, true-leb, true-some}
-use Rattle.rules.specs.Laws.Answer.{bind_inv}
-use Rattle.rules.specs.Laws.Limit.{limited-text}
-use Rattle.rules.specs.Laws.Texts.{all_left, all_right}
-use Rattle.rules.specs.Laws.Middle.{middle-plain}
-use Rattle.rules.specs.Laws.Keep.{expansion-keeps}
-use Rattle.rules.specs.Laws.Sheet.{set-good, resolve-good, sheet-encode, sheet-good, sheet-size, Kept}
-use Rattle.rules.specs.Laws.Order.{pass_order, none-broken, first-kept}
-use Rattle.rules.specs.Laws.Pass.{passed-split}
-use Rattle.rules.specs.Laws.Numbers.{numbered, numbered-check, numbered-or_refuse, numbered-then, numbered-bind, limited-numbered}
-use Rattle.rules.specs.Laws.Refusals.{includes-numbered, expansion-numbered}
+use Rattle.rules.proofs.Laws.Bool.{and_l, and_r, true-leb, true-some}
+use Rattle.rules.proofs.Laws.Answer.{bind_inv}
+use Rattle.rules.proofs.Laws.Limit.{limited-text}
+use Rattle.rules.proofs.Laws.Texts.{all_left, all_right}
+use Rattle.rules.proofs.Laws.Middle.{middle-plain}
+use Rattle.rules.proofs.Laws.Keep.{expansion-keeps}
+use Rattle.rules.proofs.Laws.Sheet.{set-good, resolve-good, sheet-encode, sheet-good, sheet-size, Kept}
+use Rattle.rules.proofs.Laws.Order.{pass_order, none-broken, first-kept}
+use Rattle.rules.proofs.Laws.Pass.{passed-split}
+use Rattle.rules.proofs.Laws.Numbers.{numbered, numbered-check, numbered-or_refuse, numbered-then, numbered-bind, limited-numbered}
+use Rattle.rules.proofs.Laws.Refusals.{includes-numbered, expansion-numbered}
 
 -- THE SHEET THAT IS LEFT keeps the layout.
 pub let-good : (s : Records) (t : List ℕ) (x : Option Value) → resolve s t ≡ x → good_records s word 6 ≡ true → all ascii t ≡ true → good_value (let_value t x) 6 ≡ true
