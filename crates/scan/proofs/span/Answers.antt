@@ -1,0 +1,19 @@
+use Rattle.std.proofs.Common.{rules}
+use mathlib.Core.Path.{sym, ◌∙◌}
+use borrow.Author.Tests.{not-true, not-false}
+use Rattle.scan.specs.Laws.{spanning-start, spanning-on, spanning-off, spanning-end}
+use Rattle.scan.proofs.span.Goals as goal
+
+pub loop-i-init : goal.loop-i-init
+loop-i-init c = spanning-start _ _ _ (search rules)
+
+pub returns-then-not-member : goal.returns-then-not-member
+returns-then-not-member c = let l = c.loop-i in
+    spanning-off _ _ _ _ l.invariant (search rules) (sym c.member.ensures ∙ not-true _ c.if-not-member.true-raw)
+
+pub loop-i-preserved : goal.loop-i-preserved
+loop-i-preserved c = let l = c.loop-i in
+    spanning-on _ _ _ _ l.invariant (search rules) (sym c.member.ensures ∙ not-false _ c.if-not-member.false-raw)
+
+pub returns : goal.returns
+returns c = spanning-end _ _ _ _ c.loop-i.invariant (search rules)
