@@ -1,4 +1,6 @@
 // Writing into lent buffers: a text stored at a place, the writer that knows how much room there is, zero fill, moving a tail.
+#![tactic(auto)]
+
 ghost use Rattle.std.specs.Prelude.{◌≡◌, [], ◌∷◌, ◌+◌, ◌-◌, ◌^◌, ◌≤◌, ◌<◌, min, length, take, drop};
 ghost use Rattle.std.proofs.lemmas.List.Edits.{sets};
 ghost use Rattle.rules.specs.Calls.{padded};

@@ -1,4 +1,6 @@
 // Paths and trimming (document 01, section 1): the path rule, joining, a path's folder.
+#![tactic(auto)]
+
 ghost use Rattle.std.specs.Prelude.{◌≡◌, ◌≤◌, ◌<◌, length, get_or};
 ghost use Rattle.rules.specs.Bytes.{is_path, is_folder, join};
 ghost use Rattle.paths.specs.Paths.{dotted, named, ended, step, whole, Parent, JoinedLen, Joins, TrimsEnd, Trims};
@@ -6,7 +8,7 @@ ghost use Rattle.paths.specs.Paths.{dotted, named, ended, step, whole, Parent, J
 use scan::{Set, member, span};
 
 // What has been read of a path's segment: nothing, `.`, `..`, a segment that may end here, or one that breaks the rule.
-#[derive(Drop)]
+#[derive(Clone, Copy)]
 pub enum Segment {
     Empty,
     Dot,
@@ -155,7 +157,7 @@ fn joined_byte(folder: &[u8], path: &[u8], i: usize) -> u8
 }
 
 // A joined path; not ok where it is longer than a path may be.
-#[derive(Drop)]
+#[derive(Clone, Copy)]
 pub struct Joined {
     pub ok: bool,
     pub len: usize,
@@ -202,7 +204,7 @@ pub fn trim_end(text: &[u8]) -> usize
 }
 
 // A part of a text.
-#[derive(Drop)]
+#[derive(Clone, Copy)]
 pub struct Range {
     pub from: usize,
     pub to: usize,
