@@ -1,4 +1,6 @@
 // The entries of a bundle (document 01, section 1): a map byte, whose bits name the fields that follow; and an entry's path.
+#![tactic(auto)]
+
 ghost use Rattle.std.specs.Prelude.{◌≡◌, ◌+◌, ◌*◌, ◌≤◌, ◌<◌, length, get_or, ltb, not, ◌&&◌};
 ghost use Rattle.rules.specs.Layout.{bit, field, field_if, byte, word16};
 ghost use Rattle.rules.specs.Bytes.{holds};
@@ -35,7 +37,7 @@ pub fn word(b: &[u8], at: usize) -> usize
 }
 
 // Where a field's bytes start, and how many there are; not ok where the layout is broken.
-#[derive(Drop)]
+#[derive(Clone, Copy)]
 pub struct Field {
     pub ok: bool,
     pub start: usize,
@@ -164,7 +166,7 @@ fn name(b: &[u8], at: usize) -> Field
 }
 
 // An entry's places: its folder, its file name, its content. The next entry begins behind the content.
-#[derive(Drop)]
+#[derive(Clone, Copy)]
 pub struct Head {
     pub ok: bool,
     pub folder: Field,

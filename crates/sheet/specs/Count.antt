@@ -1,5 +1,5 @@
 -- How many records stand before a place.
-use Rattle.std.specs.Prelude.{◌≡◌, List, ℕ, suc, ◌+◌, ◌-◌, ◌≤◌, ◌<◌, length}
+use Rattle.std.specs.Prelude.{◌≡◌, List, ℕ, suc, ◌+◌, ◌≤◌, ◌<◌, length}
 use Rattle.std.proofs.Common.{arith}
 use Rattle.rules.specs.Sheet.{Value, Records, end, rec, encode, count}
 use Rattle.sheet.specs.Parts.{Part, part-all}

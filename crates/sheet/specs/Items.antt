@@ -5,7 +5,7 @@ use Rattle.std.proofs.Common.{sym, ◌∙◌, append_assoc, arith}
 use Rattle.std.proofs.Math.Option.{Option, none, some}
 use Rattle.std.proofs.Math.ListN.{drop}
 use Rattle.scan.specs.Sets.{part}
-use Rattle.rules.specs.Layout.{bind, ◌>>=◌, ◌>>◌, pure, byte}
+use Rattle.rules.specs.Layout.{bind, ◌>>=◌, pure, byte}
 use Rattle.rules.specs.Sheet.{Value, text, nothing, dictionary, Records, end, rec, field_bytes, field_mask, count, value_mask, value_bytes, encode}
 use Rattle.rules.proofs.Laws.Sheet.{word16-read, field-read, map-byte, name-read, count-le}
 use Rattle.sheet.specs.Parts.{Part, slice-part, part_of}

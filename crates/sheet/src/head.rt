@@ -18,7 +18,7 @@ pub const ENTRY: u8 = NAME | TEXT | DICTIONARY | NONE;
 
 // A record: its name, its value's kind (1 none, 2 text, 3 dictionary), its text, and where the next record begins. Of a
 // dictionary `count` records of its own begin there.
-#[derive(Drop)]
+#[derive(Clone, Copy)]
 pub struct Item {
     pub from: usize,
     pub to: usize,
@@ -28,7 +28,7 @@ pub struct Item {
     pub count: usize,
 }
 
-#[derive(Drop)]
+#[derive(Clone, Copy)]
 pub enum Head {
     Bad,
     Record(Item),

@@ -12,7 +12,7 @@ ghost use Rattle.sheet.specs.Find.{Gives, Places, Body, HasBody, Level, IsSheet}
 use crate::head::{BINDING, ENTRY, Head, Item, read};
 
 // What a lookup finds, with its place in the sheet.
-#[derive(Drop)]
+#[derive(Clone, Copy)]
 pub enum Found {
     Missing,
     None,
@@ -179,7 +179,7 @@ pub fn lookup(s: &[u8], path: &[u8], reference: bool) -> Found
 }
 
 // A part of a sheet.
-#[derive(Drop)]
+#[derive(Clone, Copy)]
 pub struct Place {
     pub from: usize,
     pub to: usize,
