@@ -1,4 +1,6 @@
 // The bundle (document 01, section 1): its files and folders. This is the only crate that asks a bundle for a path.
+#![tactic(auto)]
+
 ghost use Rattle.std.specs.Prelude.{◌≡◌, true, ◌+◌, ◌≤◌, length, take, drop};
 ghost use Rattle.rules.specs.Bundle.{bundle_of};
 ghost use Rattle.rules.proofs.Laws.Bool.{is_some};
@@ -12,7 +14,7 @@ use bundle_entries::{entry_at, word};
 use paths::{is_path, join, parent};
 
 // What a path is in a bundle; a file's content stands at `start` in the bundle.
-#[derive(Drop)]
+#[derive(Clone, Copy)]
 pub enum Found {
     Absent,
     Folder,
@@ -47,7 +49,7 @@ pub fn find(b: &[u8], path: &[u8]) -> Found
 }
 
 // A file that was asked for: the number of a refusal, or where its bytes stand in the bundle.
-#[derive(Drop)]
+#[derive(Clone, Copy)]
 pub enum Opened {
     Refused(u8),
     Text { start: usize, len: usize },

@@ -16,7 +16,7 @@ fn above(p: &[u8], q: &[u8]) -> bool
 }
 
 // Is an entry's path the one that is asked for, or below it?
-#[derive(Drop)]
+#[derive(Clone, Copy)]
 pub struct Relation {
     pub same: bool,
     pub below: bool,

@@ -1,4 +1,6 @@
 // The bundle's layout (document 01, section 1), checked: its entries one by one, their paths in order, and no path a folder of another.
+#![tactic(auto)]
+
 ghost use Rattle.std.specs.Prelude.{◌≡◌};
 ghost use Rattle.rules.specs.Bundle.{bundle_of};
 ghost use Rattle.rules.proofs.Laws.Bool.{is_some};

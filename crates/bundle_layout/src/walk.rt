@@ -7,7 +7,7 @@ use bundle_entries::{entry_at, path_of};
 use paths::Joined;
 
 // Where the next entry begins, the last path, and which of its starts are paths themselves; not ok where a rule is broken.
-#[derive(Drop)]
+#[derive(Clone, Copy)]
 pub struct Walk {
     pub ok: bool,
     pub at: usize,

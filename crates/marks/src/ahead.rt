@@ -5,14 +5,14 @@ ghost use Rattle.scan.specs.Sets.{Spans, not_byte};
 ghost use Rattle.marks.specs.Ahead.{Knows, KnowsAll, Quotes};
 
 // From `from` to `to` the byte does not stand; at `to` it does, or the text ends. Nothing is known where `to` is before `from`.
-#[derive(Drop)]
+#[derive(Clone, Copy)]
 pub struct Ahead {
     pub from: usize,
     pub to: usize,
 }
 
 // What is known of the four quotes that a mark asks for, and of the newline behind its `)`.
-#[derive(Drop)]
+#[derive(Clone, Copy)]
 pub struct Known {
     pub one: Ahead,
     pub two: Ahead,
@@ -48,7 +48,7 @@ pub fn next(text: &[u8], at: usize, c: u8, known: Ahead) -> Ahead
 }
 
 // What stands between the next two quotes, or an empty part where they are not there; and what is then known of both.
-#[derive(Drop)]
+#[derive(Clone, Copy)]
 pub struct Pair {
     pub found: bool,
     pub from: usize,

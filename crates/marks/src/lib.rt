@@ -1,5 +1,7 @@
 // The marks `#include` and `#source-include` (document 01, section 4): where the next one stands, whether it is commented, and in `read` what
 // stands there.
+#![tactic(auto)]
+
 ghost use Rattle.std.specs.Prelude.{◌≡◌, [], ◌≤◌, length, drop};
 ghost use Rattle.rules.specs.Includes.{commented};
 ghost use Rattle.scan.specs.Sets.{part};
@@ -11,14 +13,14 @@ pub mod ahead;
 pub mod read;
 
 // The marks.
-#[derive(Drop)]
+#[derive(Clone, Copy)]
 pub enum Mark {
     Include,
     SourceInclude,
 }
 
 // The mark that stands at a place, or none.
-#[derive(Drop)]
+#[derive(Clone, Copy)]
 pub enum Found {
     Mark(Mark),
     Nothing,
@@ -49,7 +51,7 @@ fn mark_at(text: &[u8], at: usize) -> Found
 }
 
 // The next mark and its place; nothing at the end of the text.
-#[derive(Drop)]
+#[derive(Clone, Copy)]
 pub struct Next {
     pub at: usize,
     pub found: Found,

@@ -13,7 +13,7 @@ use paths::trim;
 use scan::Set;
 
 // A part of the text is copied; a file is included, its path trimmed; a source is shown, its path trimmed, with its language.
-#[derive(Drop)]
+#[derive(Clone, Copy)]
 pub enum Reading {
     Copied {
         from: usize,
@@ -32,7 +32,7 @@ pub enum Reading {
 }
 
 // What was read, whether it is whole (section 6), where reading goes on, and what is known of what lies ahead.
-#[derive(Drop)]
+#[derive(Clone, Copy)]
 pub struct Read {
     pub what: Reading,
     pub whole: bool,
@@ -96,7 +96,7 @@ fn include(text: &[u8], at: usize, behind: usize, known: Known) -> Read
 }
 
 // Where reading goes on behind a source: behind the first newline after the first `)`; without it behind the `)`.
-#[derive(Drop)]
+#[derive(Clone, Copy)]
 pub struct Behind {
     pub whole: bool,
     pub next: usize,

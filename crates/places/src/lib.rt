@@ -1,4 +1,6 @@
 // Where a name's record stands in a sheet, or is to go.
+#![tactic(auto)]
+
 ghost use Rattle.rules.specs.Sheet.{Records};
 ghost use Rattle.sheet.specs.Order.{underscored_if};
 ghost use Rattle.places.specs.Place.{Placing, Placed};
@@ -7,7 +9,7 @@ ghost use Rattle.places.specs.Mark.{Marked, HasMark};
 use sheet::lookup::{item, order, skip};
 
 // Where a name is bound: in place of the bytes from a place to another.
-#[derive(Drop)]
+#[derive(Clone, Copy)]
 pub struct Place {
     pub from: usize,
     pub to: usize,

@@ -1,4 +1,6 @@
 // A record's bytes in a sheet's buffer: its opening, which is all before its text or its records; and moves that make room for it.
+#![tactic(auto)]
+
 ghost use Rattle.std.specs.Prelude.{◌≡◌, ◌++◌, ◌+◌, ◌-◌, ◌≤◌, length};
 ghost use Rattle.std.proofs.lemmas.List.Edits.{sets};
 ghost use Rattle.scan.specs.Sets.{part};

@@ -1,4 +1,6 @@
 // The layout check (refusal 3): every rule of section 2, each byte looked at a few times.
+#![tactic(auto)]
+
 ghost use Rattle.std.specs.Prelude.{◌≡◌, ◌≤◌, length, drop};
 ghost use Rattle.rules.specs.Sheet.{sheet_of};
 ghost use Rattle.rules.proofs.Laws.Bool.{is_some};
@@ -11,14 +13,14 @@ use sheet::head::{BINDING, ENTRY, Head, Item, read};
 use sheet::lookup::order;
 
 // Where what was read ends, or that it breaks the layout.
-#[derive(Drop)]
+#[derive(Clone, Copy)]
 pub enum Ends {
     Bad,
     At(usize),
 }
 
 // The last name of a level: is there one, and where.
-#[derive(Drop)]
+#[derive(Clone, Copy)]
 pub struct Last {
     pub known: bool,
     pub from: usize,

@@ -1,4 +1,6 @@
 // Where literals and expressions end (document 01, section 3): the same for every sheet, and found without their texts.
+#![tactic(auto)]
+
 ghost use Rattle.rules.specs.Sheet.{Lookup};
 ghost use Rattle.rules.specs.Strings.{literal, expression};
 ghost use Rattle.string_ends.specs.Ends.{Ends, Begins, EndsRound};
@@ -24,7 +26,7 @@ pub fn literal_end(text: &[u8]) -> usize
 }
 
 // What a round of an expression begins with: a literal, from behind its quote; a reference's run; neither.
-#[derive(Drop)]
+#[derive(Clone, Copy)]
 pub enum RoundStart {
     Literal { from: usize },
     Reference { from: usize, to: usize },
@@ -47,7 +49,7 @@ pub fn round_start(text: &[u8]) -> RoundStart
 }
 
 // Where a round of an expression ends, and is there a term?
-#[derive(Drop)]
+#[derive(Clone, Copy)]
 pub struct RoundEnd {
     pub found: bool,
     pub used: usize,

@@ -1,4 +1,6 @@
 // The test load (E2): the generator, the two lists of pieces, and the load of a seed at the start of a buffer.
+#![tactic(auto)]
+
 ghost use Rattle.std.specs.Prelude.{◌≡◌, ◌*◌, ◌%◌, ◌^◌, ◌<◌, true, [], length, slice_index_or};
 ghost use Rattle.rules.specs.Load.{next, draw, load, list_of};
 ghost use Rattle.buffers.specs.Put.{Writer, Put};
@@ -20,7 +22,7 @@ fn next(state: u32) -> u32
 }
 
 // A draw, and the new state that it is taken from.
-#[derive(Drop)]
+#[derive(Clone, Copy)]
 struct Drawn {
     value: u32,
     state: u32,
@@ -96,7 +98,7 @@ fn put_load_of(seed: u32, definitions: bool, out: &mut [u8]) -> usize
 }
 
 // What a call comes to: 0, and the length of the load; or 11.
-#[derive(Drop)]
+#[derive(Clone, Copy)]
 pub struct Outcome {
     pub number: u8,
     pub len: usize,

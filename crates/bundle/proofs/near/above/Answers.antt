@@ -1,0 +1,10 @@
+use Rattle.std.proofs.Common.{rules}
+use borrow.Author.Tests.{not-true, not-false}
+use Rattle.bundle.specs.Find.{above-no, above_at}
+use Rattle.bundle.proofs.near.above.Goals as goal
+
+pub returns-then-not-starts_with : goal.returns-then-not-starts_with
+returns-then-not-starts_with c = above-no _ _ c.starts_with.ensures (not-true _ c.if-not-starts_with.true-raw)
+
+pub returns : goal.returns
+returns c = above_at _ _ c.starts_with.ensures (not-false _ c.if-not-starts_with.false-raw) c.at.ensures

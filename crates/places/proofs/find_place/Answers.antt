@@ -1,0 +1,63 @@
+use Rattle.std.proofs.Common.{rules}
+use native.Mathlib.Omega.{arith}
+use Prim.Native.Nat.{◌-◌}
+use lib.ListN.{length}
+use Rattle.rules.specs.Sheet.{Records}
+use Rattle.sheet.specs.Order.{underscored_if}
+use Rattle.sheet.specs.Find.{item_holding, item_has, item_rest}
+use Rattle.places.specs.Mark.{Marked}
+use Rattle.places.specs.Place.{Placing, standing, standing-at, place_end, place-below, place_same, place-on}
+use Rattle.places.proofs.find_place.Goals as goal
+
+pub loop-i-init : goal.loop-i-init
+loop-i-init c = λ r p. c.start-i.ensures r p
+
+pub item-o-requires : goal.item-o-requires
+item-o-requires c = standing-at (standing (c.loop-i.invariant _ c.requires.marked) (search rules))
+
+pub skip-e-requires : goal.skip-e-requires
+skip-e-requires c = let k = standing (c.loop-i.invariant _ c.requires.marked) (search rules) in
+    item_has (c.item-o.ensures _ _ _ _ k.part)
+
+pub slice_bounds-order-count : goal.slice_bounds-order-count
+slice_bounds-order-count c = let k = standing (c.loop-i.invariant _ c.requires.marked) (search rules) in
+    let d = c.item-o.ensures _ _ _ _ k.part in
+    omega (arith, d.name.ends, d.name.inside)
+
+pub slice_bounds-order-start : goal.slice_bounds-order-start
+slice_bounds-order-start c = let k = standing (c.loop-i.invariant _ c.requires.marked) (search rules) in
+    let d = c.item-o.ensures _ _ _ _ k.part in
+    omega (arith, d.name.ends, d.name.inside)
+
+pub slice_bounds-order-end : goal.slice_bounds-order-end
+slice_bounds-order-end c = let k = standing (c.loop-i.invariant _ c.requires.marked) (search rules) in
+    let d = c.item-o.ensures _ _ _ _ k.part in
+    omega (arith, d.name.ends, d.name.inside)
+
+pub returns-then-c-eq1 : goal.returns-then-c-eq1
+returns-then-c-eq1 c = λ r p.
+    let k = standing (c.loop-i.invariant r p) (search rules) in
+    let d = c.item-o.ensures _ _ _ _ k.part in
+    let e = c.skip-e.ensures _ _ (item_holding d) in
+    place_same k d.name c.order-c.ensures (item_rest d e) (omega (arith, d.on, e)) c.if-c-eq1.true
+
+pub returns-then-c-eq2 : goal.returns-then-c-eq2
+returns-then-c-eq2 c = λ r p.
+    let k = standing (c.loop-i.invariant r p) (search rules) in
+    let d = c.item-o.ensures _ _ _ _ k.part in
+    place-below k d.name c.order-c.ensures c.if-c-eq2.true
+
+pub loop-i-smaller : goal.loop-i-smaller
+loop-i-smaller c = let k = standing (c.loop-i.invariant _ c.requires.marked) (search rules) in
+    let d = c.item-o.ensures _ _ _ _ k.part in
+    omega (arith, d.on, c.skip-e.ensures _ _ (item_holding d))
+
+pub loop-i-preserved : goal.loop-i-preserved
+loop-i-preserved c = λ r p.
+    let k = standing (c.loop-i.invariant r p) (search rules) in
+    let d = c.item-o.ensures _ _ _ _ k.part in
+    let e = c.skip-e.ensures _ _ (item_holding d) in
+    place-on k d.name c.order-c.ensures (item_rest d e) (omega (arith, d.on, e)) c.if-c-eq1.false c.if-c-eq2.false
+
+pub returns : goal.returns
+returns c = λ r p. place_end (c.loop-i.invariant r p) (search rules)

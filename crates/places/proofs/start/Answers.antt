@@ -1,0 +1,35 @@
+use Rattle.std.proofs.Common.{rules}
+use native.Mathlib.Omega.{arith}
+use Rattle.places.specs.Place.{place-start}
+use Rattle.places.specs.Mark.{there, there-at, place-there}
+use Rattle.places.proofs.start.Goals as goal
+
+pub returns-then-last-eq0 : goal.returns-then-last-eq0
+returns-then-last-eq0 c = λ r m. place-start m.bytes
+
+pub returns-then-s-last : goal.returns-then-s-last
+returns-then-s-last c = λ r m. place-start m.bytes
+
+pub item-o-requires : goal.item-o-requires
+item-o-requires c = there-at (there c.requires.marked (search rules))
+
+pub slice_bounds-order-count : goal.slice_bounds-order-count
+slice_bounds-order-count c = let d = c.item-o.ensures _ _ _ _ (there c.requires.marked (search rules)).part in
+    omega (arith, d.name.ends, d.name.inside)
+
+pub slice_bounds-order-start : goal.slice_bounds-order-start
+slice_bounds-order-start c = let d = c.item-o.ensures _ _ _ _ (there c.requires.marked (search rules)).part in
+    omega (arith, d.name.ends, d.name.inside)
+
+pub slice_bounds-order-end : goal.slice_bounds-order-end
+slice_bounds-order-end c = let d = c.item-o.ensures _ _ _ _ (there c.requires.marked (search rules)).part in
+    omega (arith, d.name.ends, d.name.inside)
+
+pub returns-then-order-eq2 : goal.returns-then-order-eq2
+returns-then-order-eq2 c = λ r m. place-start m.bytes
+
+pub returns : goal.returns
+returns c = λ r m.
+    let k = there m (search rules) in
+    let d = c.item-o.ensures _ _ _ _ k.part in
+    place-there (m.order c.if-last-eq0.false) k d.name c.order.ensures c.if-order-eq2.false

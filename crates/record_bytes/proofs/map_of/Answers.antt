@@ -1,0 +1,9 @@
+use Rattle.std.proofs.Common.{rules}
+use Rattle.record_bytes.specs.Opening.{map-plain, map-named}
+use Rattle.record_bytes.proofs.map_of.Goals as goal
+
+pub returns-then-name-eq0 : goal.returns-then-name-eq0
+returns-then-name-eq0 c = map-plain _ _ c.if-name-eq0.true
+
+pub returns : goal.returns
+returns c = map-named _ c.requires c.if-name-eq0.false
