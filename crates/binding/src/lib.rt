@@ -1,4 +1,6 @@
 // Binding a name inside a lent buffer whose first bytes are the sheet.
+#![tactic(auto)]
+
 ghost use Rattle.std.specs.Prelude.{List, ℕ, ◌≤◌, length, take};
 ghost use Rattle.std.proofs.Math.Option.{some};
 ghost use Rattle.scan.specs.Sets.{part};
@@ -15,21 +17,21 @@ use sheet::head::{DICTIONARY, NONE, TEXT};
 use sheet::lookup::Found;
 
 // What a binding comes to: too long a sheet, or the sheet's new length.
-#[derive(Drop)]
+#[derive(Clone, Copy)]
 pub enum Bound {
     Over,
     Length(usize),
 }
 
 // What a binding comes to, and where its record begins; 0 if it is not put.
-#[derive(Drop)]
+#[derive(Clone, Copy)]
 pub struct Put {
     pub bound: Bound,
     pub at: usize,
 }
 
 // Where a record is to go, with its opening's length and the sheet's new length.
-#[derive(Drop)]
+#[derive(Clone, Copy)]
 pub struct Room {
     pub from: usize,
     pub to: usize,
@@ -37,7 +39,7 @@ pub struct Room {
     pub total: usize,
 }
 
-#[derive(Drop)]
+#[derive(Clone, Copy)]
 pub enum Plan {
     Over,
     Fits(Room),
@@ -74,7 +76,7 @@ fn find_room(
 }
 
 // A value: its bit, its own bytes' places, and the number that stands before them.
-#[derive(Drop)]
+#[derive(Clone, Copy)]
 pub struct Source {
     pub bit: u8,
     pub from: usize,

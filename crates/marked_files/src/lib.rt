@@ -1,4 +1,6 @@
 // The files that marks name (document 01, section 4): an included file is opened, and a newline put behind it; a source is put as a block.
+#![tactic(auto)]
+
 ghost use Rattle.std.specs.Prelude.{◌≡◌, true};
 ghost use Rattle.rules.specs.Reader.{bytes};
 ghost use Rattle.rules.specs.Bytes.{join};
@@ -15,7 +17,7 @@ use paths::{join, parent};
 pub mod sources;
 
 // Has all been written; if not, the refusal's number. Where the writer goes on.
-#[derive(Drop)]
+#[derive(Clone, Copy)]
 pub struct Written {
     pub ok: bool,
     pub number: u8,
@@ -43,7 +45,7 @@ pub fn put_newline(ok: bool, number: u8, out: &mut [u8], room: usize, p: usize, 
 }
 
 // An included file: opened, or the refusal's number; where its text stands in the bundle; its path, and how much of that is its folder.
-#[derive(Drop)]
+#[derive(Clone, Copy)]
 pub struct File {
     pub ok: bool,
     pub number: u8,

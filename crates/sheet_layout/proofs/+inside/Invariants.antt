@@ -1,0 +1,15 @@
+use Rattle.std.proofs.Common.{◌≡◌}
+use Prim.Native.Nat.{ℕ, ◌<◌}
+use mathlib.Core.Path.{refl}
+use native.Mathlib.Omega.{arith}
+use Rattle.sheet_layout.specs.Check.{Running, body_flat, body-none, running-start, running-end, running-broken, running_bad, running-on, entered, within}
+use Rattle.sheet_layout.proofs.+inside.Given as goal
+
+abbrev pub decreases-inside : goal.decreases-inside
+decreases-inside l = l.levels
+
+abbrev pub invariant-loop-remaining : goal.invariant-loop-remaining
+invariant-loop-remaining l = Running l.s l.at l.count l.levels l.i l.remaining l.last
+
+abbrev pub decreases-loop-remaining : goal.decreases-loop-remaining
+decreases-loop-remaining l = l.remaining
