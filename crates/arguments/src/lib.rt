@@ -1,5 +1,7 @@
 // The arguments of the include call, of the expansion call and of a pass. The include call has no sheet and asks with the empty one; the
 // expansion call has no folder and asks with the empty one. Both keep the rules.
+#![tactic(auto)]
+
 ghost use Rattle.std.specs.Prelude.{◌≡◌};
 ghost use Rattle.rules.specs.Calls.{limit};
 ghost use Rattle.arguments.specs.Given.{Judges};

@@ -1,4 +1,6 @@
 // Binding the names of an import (document 01, section 7).
+#![tactic(auto)]
+
 ghost use Rattle.std.specs.Prelude.{[], ◌∷◌, ◌≤◌, length, drop};
 ghost use Rattle.rules.specs.Reader.{rounds};
 ghost use Rattle.rules.specs.Definitions.{star, listed, listed_more, word_round, names};

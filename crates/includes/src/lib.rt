@@ -1,4 +1,6 @@
 // Includes (document 01, section 4): the resolver, which calls itself with one level fewer for an included file.
+#![tactic(auto)]
+
 ghost use Rattle.std.specs.Prelude.{◌≡◌, true, [], ◌≤◌, length};
 ghost use Rattle.rules.specs.Run.{run};
 ghost use Rattle.rules.specs.Bundle.{bundle_of};
@@ -16,7 +18,7 @@ use marks::read::Reading;
 
 // What resolving a text came to: has all been written; if not, the refusal's number; where the writer goes on; and, if all has been
 // written, whether each mark of the text itself is whole (section 6).
-#[derive(Drop)]
+#[derive(Clone, Copy)]
 pub struct Resolved {
     pub ok: bool,
     pub number: u8,

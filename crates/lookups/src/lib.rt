@@ -1,5 +1,7 @@
 // The lookups of the public calls: a text in a sheet, what it stands for at the start of a buffer; a path in a bundle. Each answers as the rules say;
 // what stands in the buffer behind the text is left as it is.
+#![tactic(auto)]
+
 ghost use Rattle.std.specs.Prelude.{◌≡◌};
 ghost use Rattle.rules.specs.Calls.{find_file_of};
 ghost use Rattle.sheet.specs.Find.{found_kind};
@@ -9,7 +11,7 @@ ghost use Rattle.lookups.specs.Text.{Gave, Resolves};
 use sheet::lookup::{Found, text_place};
 
 // A lookup's answer. Kind: 0 missing, 1 none, 2 text, 3 dictionary. Of a text, its length at the start of the buffer.
-#[derive(Drop)]
+#[derive(Clone, Copy)]
 pub struct Resolved {
     pub number: u8,
     pub kind: u8,
@@ -78,7 +80,7 @@ pub fn resolve(sheet: &[u8], path: &[u8], out: &mut [u8]) -> Resolved
 }
 
 // What a path is in a bundle. Kind: 0 absent, 1 folder, 2 file; a file's content stands at `start` in the bundle.
-#[derive(Drop)]
+#[derive(Clone, Copy)]
 pub struct FoundFile {
     pub number: u8,
     pub kind: u8,

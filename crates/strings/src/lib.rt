@@ -1,4 +1,6 @@
 // Strings and expressions (document 01, section 3): written at a writer's place, or measured without a buffer. The readers are in `readers`.
+#![tactic(auto)]
+
 ghost use Rattle.std.specs.Prelude.{◌≤◌, length, ◌≡◌};
 ghost use Rattle.rules.specs.Bytes.{underscored};
 ghost use Rattle.rules.specs.Sheet.{resolve, text_of};
@@ -33,7 +35,7 @@ pub fn reference(sheet: &[u8], run: &[u8], out: &mut [u8], room: usize, p: usize
 }
 
 // How many bytes were read, and where the writer goes on.
-#[derive(Drop)]
+#[derive(Clone, Copy)]
 pub struct Read {
     pub used: usize,
     pub next: usize,

@@ -7,7 +7,7 @@ use paths::trim_end;
 
 // Where the writer goes on; where it would go on without the text's trailing blanks; and how many bytes of another text the text has met,
 // one more than that has where they differ.
-#[derive(Drop)]
+#[derive(Clone, Copy)]
 pub struct Progress {
     pub next: usize,
     pub kept: usize,

@@ -13,7 +13,7 @@ use crate::progress::{Progress, add};
 use string_ends::{RoundStart, round_start};
 
 // How many bytes were read, and how far the text has come.
-#[derive(Drop)]
+#[derive(Clone, Copy)]
 pub struct Taken {
     pub used: usize,
     pub to: Progress,
@@ -62,7 +62,7 @@ pub fn literal(text: &[u8], other: &[u8], out: &mut [u8], room: usize, a: Progre
 }
 
 // What a round of an expression comes to: is there a term, how many bytes were read, how far the text has come.
-#[derive(Drop)]
+#[derive(Clone, Copy)]
 pub struct Round {
     pub found: bool,
     pub used: usize,

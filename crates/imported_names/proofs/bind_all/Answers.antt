@@ -1,0 +1,53 @@
+use Rattle.std.proofs.Common.{rules}
+use Prim.Native.Nat.{◌-◌}
+use lib.ListN.{length}
+use native.Mathlib.Omega.{arith}
+use Rattle.sheet.specs.Find.{item_has, item_has-body, item_holding}
+use Rattle.imported_names.specs.Names.{BindingAll, all_start, all_end, all-next, all_told, all-bindable, all_there, all-size, all-over, all-on, meeting-at}
+use Rattle.imported_names.proofs.bind_all.Goals as goal
+
+pub loop-i-init : goal.loop-i-init
+loop-i-init c = all_start c.requires
+
+pub item-o-requires : goal.item-o-requires
+item-o-requires c = meeting-at (all-next c.requires c.loop-i.invariant (search rules))
+
+pub skip-end-requires : goal.skip-end-requires
+skip-end-requires c = item_has (all_told c.requires c.loop-i.invariant (search rules) c.item-o.ensures)
+
+pub value-v-requires : goal.value-v-requires
+value-v-requires c = item_has-body (all_told c.requires c.loop-i.invariant (search rules) c.item-o.ensures)
+
+pub slice_bounds-bind_from-count : goal.slice_bounds-bind_from-count
+slice_bounds-bind_from-count c = let d = all_told c.requires c.loop-i.invariant (search rules) c.item-o.ensures in
+    omega (arith, d.name.ends, d.name.inside)
+
+pub slice_bounds-bind_from-start : goal.slice_bounds-bind_from-start
+slice_bounds-bind_from-start c = let d = all_told c.requires c.loop-i.invariant (search rules) c.item-o.ensures in
+    omega (arith, d.name.ends, d.name.inside)
+
+pub slice_bounds-bind_from-end : goal.slice_bounds-bind_from-end
+slice_bounds-bind_from-end c = let d = all_told c.requires c.loop-i.invariant (search rules) c.item-o.ensures in
+    omega (arith, d.name.ends, d.name.inside)
+
+pub bind_from-bound-requires : goal.bind_from-bound-requires
+bind_from-bound-requires c = (all-bindable c.requires c.loop-i.invariant (search rules), all_there c.requires c.loop-i.invariant (search rules) c.item-o.ensures _ c.value-v.ensures)
+
+pub shape_of-left-in_default : goal.shape_of-left-in_default
+shape_of-left-in_default c = all-size c.requires c.loop-i.invariant (search rules) c.item-o.ensures _ c.value-v.ensures c.bind_from-bound.ensures
+
+pub returns-in_default : goal.returns-in_default
+returns-in_default c = all-over c.requires c.loop-i.invariant (search rules) c.item-o.ensures _ c.value-v.ensures c.bind_from-bound.ensures c.in_default.is
+
+pub loop-i-smaller : goal.loop-i-smaller
+loop-i-smaller c = let d = all_told c.requires c.loop-i.invariant (search rules) c.item-o.ensures in
+    omega (arith, d.on, c.skip-end.ensures _ _ (item_holding d))
+
+pub loop-i-preserved : goal.loop-i-preserved
+loop-i-preserved c = all-on c.requires c.loop-i.invariant (search rules) c.item-o.ensures _ c.value-v.ensures c.bind_from-bound.ensures c.in-Length.is c.skip-end.ensures
+
+pub shape_of-left : goal.shape_of-left
+shape_of-left c = c.loop-i.invariant.size
+
+pub returns : goal.returns
+returns c = all_end c.loop-i.invariant (search rules)

@@ -1,0 +1,106 @@
+use Rattle.std.proofs.Common.{rules}
+use Prim.Native.Nat.{ℕ, ◌<◌}
+use mathlib.Core.Path.{◌≡◌, refl, sym, ap, ◌∙◌}
+use mathlib.Core.Bool.{false}
+use mathlib.Core.Logic.{◌⊎◌, ⊎_elim}
+use Prim.Native.Nat.{◌+◌, ◌-◌}
+use native.Mathlib.Omega.{arith}
+use borrow.Author.Tests.{not-true, not-false}
+use denote.Enum.Declared.{tag_of}
+use lib.ListN.{length}
+use lib.Seq.{length-take-le}
+use Rattle.rules.specs.Files.{view}
+use Rattle.rules.specs.Includes.{inside_file}
+use Rattle.buffers.specs.Laws.{put-writer, put-length}
+use Rattle.bundle.specs.Find.{entries_of}
+use Rattle.marks.specs.declared.read.Reading.{Reading}
+use Rattle.marks.specs.declared.read.Reading.TheVariants.{Copied, Include as Included, Source as Shown}
+use Rattle.marks.specs.contracts.read.Reading.{the_type}
+use Rattle.includes.specs.Resolve.{Resolving, resolving-start, resolving-full, resolving-end, resolving-refused, resolving-on, within_include, is_include, came-put, came_refused, came-inside}
+use Rattle.marks.specs.Marks.{mark-some}
+use Rattle.includes.proofs.+resolve.Goals as goal
+
+none_of : {x : ℕ} → x ≡ 1 → (x ≡ 0) ⊎ (x ≡ 2) → ⊥
+none_of e w = ⊎_elim (λ a. omega arith) (λ a. omega arith) w
+
+not-include : (r : Reading) → (tag_of the_type r ≡ 0) ⊎ (tag_of the_type r ≡ 2) → is_include r ≡ false
+unfolding is_include
+not-include (Copied a b) h = refl
+not-include (Included a b) h = absurd (none_of refl h)
+not-include (Shown a b c d) h = refl
+
+pub loop-q-init : goal.loop-q-init
+loop-q-init t c = resolving-start _ _ _ _ c.requires.2 (c.nothing-known.ensures _)
+
+pub next_mark-next-requires : goal.next_mark-next-requires
+next_mark-next-requires t c = c.loop-q.invariant.inside
+
+pub put-q-requires : goal.put-q-requires
+put-q-requires t c = record { place = omega (arith, c.loop-q.invariant.place); fits = c.requires.1.fits }
+
+pub shape_of-out-then-room-q : goal.shape_of-out-then-room-q
+shape_of-out-then-room-q t c = put-length c.put-q.ensures ∙ c.loop-q.invariant.size
+
+pub returns-then-room-q : goal.returns-then-room-q
+returns-then-room-q t c = rw c.refused.ensures (resolving-full _ _ _ _ c.loop-q.invariant c.next_mark-next.ensures c.put-q.ensures (search rules))
+
+pub shape_of-out-in_default : goal.shape_of-out-in_default
+shape_of-out-in_default t c = put-length c.put-q.ensures ∙ c.loop-q.invariant.size
+
+pub returns-in_default : goal.returns-in_default
+returns-in_default t c = rw c.finished.ensures (resolving-end _ _ _ _ c.loop-q.invariant c.next_mark-next.ensures c.put-q.ensures (search rules) c.in_default.is)
+
+pub read_mark-r-requires : goal.read_mark-r-requires
+read_mark-r-requires t c = (c.next_mark-next.ensures.before.on, c.next_mark-next.ensures.before.inside, sym c.in-Mark.is ∙ c.next_mark-next.ensures.there, c.loop-q.invariant.knows)
+
+pub put_read-w-requires : goal.put_read-w-requires
+put_read-w-requires t c = (c.requires.0, put-writer c.put-q.ensures (record { place = omega (arith, c.loop-q.invariant.place); fits = c.requires.1.fits }), search rules, omega (arith, put-length c.put-q.ensures, c.loop-q.invariant.size, c.requires.3), c.read_mark-r.ensures.parts)
+
+pub slice_bounds-open_file-count : goal.slice_bounds-open_file-count
+slice_bounds-open_file-count t c = let h = within_include _ c.read_mark-r.ensures.parts c.in-Include.is in search rules
+
+pub slice_bounds-open_file-start : goal.slice_bounds-open_file-start
+slice_bounds-open_file-start t c = let h = within_include _ c.read_mark-r.ensures.parts c.in-Include.is in search rules
+
+pub slice_bounds-open_file-end : goal.slice_bounds-open_file-end
+slice_bounds-open_file-end t c = let h = within_include _ c.read_mark-r.ensures.parts c.in-Include.is in search rules
+
+pub open_file-f-requires : goal.open_file-f-requires
+open_file-f-requires t c = c.requires.0
+
+pub shape_of-out-then-not-f : goal.shape_of-out-then-not-f
+shape_of-out-then-not-f t c = c.put_read-w.ensures.size ∙ put-length c.put-q.ensures ∙ c.loop-q.invariant.size
+
+pub returns-then-not-f : goal.returns-then-not-f
+returns-then-not-f t c = rw c.refused-then-not-f.ensures (resolving-refused _ _ _ _ c.loop-q.invariant c.next_mark-next.ensures c.put-q.ensures (omega (arith, c.if-room-q.false)) c.in-Mark.mark c.read_mark-r.ensures (came_refused _ c.put_read-w.ensures c.in-Include.is c.open_file-f.ensures {q = 0} (not-true _ c.if-not-f.true)) refl)
+
+pub slice_bounds-bytes-end : goal.slice_bounds-bytes-end
+slice_bounds-bytes-end t c = c.open_file-f.ensures.short
+
+pub slice_bounds-its_folder-end : goal.slice_bounds-its_folder-end
+slice_bounds-its_folder-end t c = sym (length-take-le _ _ c.open_file-f.ensures.short)
+
+pub overflow_sub-levels : goal.overflow_sub-levels
+overflow_sub-levels t c = let h = c.open_file-f.ensures.left (not-false _ c.if-not-f.false) in search rules
+
+pub resolve-i-requires : goal.resolve-i-requires
+resolve-i-requires t c = let h = c.open_file-f.ensures.left (not-false _ c.if-not-f.false) in
+    (omega (arith, c.requires.0, h), (c.requires.0, put-writer c.put-q.ensures (record { place = omega (arith, c.loop-q.invariant.place); fits = c.requires.1.fits }), omega (arith, c.if-room-q.false), omega (arith, c.put_read-w.ensures.size, put-length c.put-q.ensures, c.loop-q.invariant.size, c.requires.3)))
+
+pub put_newline-w-requires : goal.put_newline-w-requires
+put_newline-w-requires t c = λ z. record { place = omega (arith, (c.resolve-i.ensures.emits.goes z).fits); fits = c.requires.1.fits }
+
+pub shape_of-out-then-not-w : goal.shape_of-out-then-not-w
+shape_of-out-then-not-w t c = ⊎_elim (λ w. ap length w.18 ∙ w.15.ensures.size ∙ w.11.ensures.emits.size) (λ w. ap length w.1) c.match-what.branch ∙ c.put_read-w.ensures.size ∙ put-length c.put-q.ensures ∙ c.loop-q.invariant.size
+
+pub returns-then-not-w : goal.returns-then-not-w
+returns-then-not-w t c = rw c.refused-then-not-w.ensures (resolving-refused _ _ _ _ c.loop-q.invariant c.next_mark-next.ensures c.put-q.ensures (search rules) c.in-Mark.mark c.read_mark-r.ensures {fine = c.match-what.w.ok} {u = c.match-what.w.next} (⊎_elim (λ w. came-inside _ c.put_read-w.ensures w.1.given.1 w.4.ensures (omega (arith, c.if-room-q.false)) (not-false _ w.6.left) w.11.ensures w.15.ensures w.18 w.19) (λ w. came-put _ c.put_read-w.ensures (not-include _ w.0.keys2) w.1 w.2) c.match-what.branch) (not-true _ c.if-not-w.true))
+
+pub loop-q-smaller : goal.loop-q-smaller
+loop-q-smaller t c = let n = c.next_mark-next.ensures.before.on in
+    let o = c.read_mark-r.ensures.on in
+    let i = c.read_mark-r.ensures.inside in
+    omega (arith, mark-some c.in-Mark.mark)
+
+pub loop-q-preserved : goal.loop-q-preserved
+loop-q-preserved t c = resolving-on _ _ _ _ c.loop-q.invariant c.next_mark-next.ensures c.put-q.ensures (search rules) c.in-Mark.mark c.read_mark-r.ensures {fine = c.match-what.w.ok} {o = c.match-what.w.number} (⊎_elim (λ w. came-inside _ c.put_read-w.ensures w.1.given.1 w.4.ensures (omega (arith, c.if-room-q.false)) (not-false _ w.6.left) w.11.ensures w.15.ensures w.18 w.19) (λ w. came-put _ c.put_read-w.ensures (not-include _ w.0.keys2) w.1 w.2) c.match-what.branch) (not-false _ c.if-not-w.false)
