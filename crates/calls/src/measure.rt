@@ -8,14 +8,14 @@ ghost use Rattle.calls.specs.Measure.{Measures, MeasuresRead};
 use paths::trim_end;
 
 // A text's length, and its length without trailing blanks; each exact up to the room, and one more than that where it is longer.
-#[derive(Drop)]
+#[derive(Clone, Copy)]
 pub struct Measure {
     pub len: usize,
     pub kept: usize,
 }
 
 // How many bytes were read, and what their text measures.
-#[derive(Drop)]
+#[derive(Clone, Copy)]
 pub struct Measured {
     pub used: usize,
     pub size: Measure,

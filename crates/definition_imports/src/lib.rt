@@ -1,4 +1,6 @@
 // The imports of a file of definitions (document 01, section 7), up to the file that one names.
+#![tactic(auto)]
+
 ghost use Rattle.std.specs.Prelude.{◌≡◌, true, List, ℕ, ◌+◌, ◌≤◌, length};
 ghost use Rattle.rules.specs.Bytes.{join};
 ghost use Rattle.rules.specs.Bundle.{bundle_of};
@@ -14,7 +16,7 @@ use scan::Set;
 
 // An import, read from behind its mark: has it a literal; the first bytes of the literal's text, and the text's length, or more than 256
 // where it is longer; where its names stand, and where reading goes on.
-#[derive(Drop)]
+#[derive(Clone, Copy)]
 pub struct Import {
     pub found: bool,
     pub path: [u8; 256],
@@ -75,7 +77,7 @@ fn join_path(folder: &[u8], path: [u8; 256], n: usize) -> Joined
 }
 
 // What an import comes to before its file is read: nothing is bound, a refusal, or a file, whose folder is the start of its path.
-#[derive(Drop)]
+#[derive(Clone, Copy)]
 pub enum Target {
     Nothing,
     Refused(u8),
@@ -124,7 +126,7 @@ fn open_import(b: &[u8], j: Joined, levels: usize) -> Target
 }
 
 // An import in a text: what it comes to, its file's path, where its names stand, and where reading goes on.
-#[derive(Drop)]
+#[derive(Clone, Copy)]
 pub struct Imported {
     pub target: Target,
     pub path: [u8; 255],

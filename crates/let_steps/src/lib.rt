@@ -1,4 +1,6 @@
 // The steps `#import` and `#let` of the expansion (document 01, section 5): each drops its line, and writes nothing. Each reads from behind its mark.
+#![tactic(auto)]
+
 ghost use Rattle.std.specs.Prelude.{◌≡◌, true, ◌≤◌, length, take};
 ghost use Rattle.rules.specs.Reader.{all};
 ghost use Rattle.rules.specs.Bytes.{ascii};
@@ -21,7 +23,7 @@ pub fn import_step(text: &[u8], at: usize) -> usize
 }
 
 // The line of a `#let`: where its name stands, where the trimmed text behind it stands, and where reading goes on.
-#[derive(Drop)]
+#[derive(Clone, Copy)]
 pub struct Line {
     pub from: usize,
     pub to: usize,
@@ -63,7 +65,7 @@ fn bind_line(left: &mut [u8], n: usize, limit: usize, name: &[u8], content: &[u8
 }
 
 // What a `#let` came to: has the sheet stayed within its limit, where reading goes on, and the sheet's length.
-#[derive(Drop)]
+#[derive(Clone, Copy)]
 pub struct Let {
     pub ok: bool,
     pub at: usize,

@@ -1,4 +1,6 @@
 // Values of definitions (document 01, section 7): a text, none, or a dictionary, which holds values.
+#![tactic(auto)]
+
 ghost use Rattle.std.specs.Prelude.{◌≡◌, ◌-◌, ◌≤◌, length};
 ghost use Rattle.rules.specs.Definitions.{text_value, value, dictionary_value};
 ghost use Rattle.sheet.specs.Find.{IsSheet};
@@ -11,7 +13,7 @@ use sheet::head::{DICTIONARY, NONE, TEXT};
 
 // What reading a value came to: is there one; if not, the refusal's number; where reading goes on; the value's bit, the number that stands before
 // its own bytes, and how many of those stand at the start of the work buffer.
-#[derive(Drop)]
+#[derive(Clone, Copy)]
 pub struct ValueRead {
     pub ok: bool,
     pub number: u8,

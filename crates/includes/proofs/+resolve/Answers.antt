@@ -19,15 +19,13 @@ use Rattle.marks.specs.contracts.read.Reading.{the_type}
 use Rattle.includes.specs.Resolve.{Resolving, resolving-start, resolving-full, resolving-end, resolving-refused, resolving-on, within_include, is_include, came-put, came_refused, came-inside}
 use Rattle.marks.specs.Marks.{mark-some}
 use Rattle.includes.proofs.+resolve.Goals as goal
+use Rattle.includes.proofs.+resolve.Goals.{in-Include+else-not-f, in_default-what}
 
-none_of : {x : ℕ} → x ≡ 1 → (x ≡ 0) ⊎ (x ≡ 2) → ⊥
-none_of e w = ⊎_elim (λ a. omega arith) (λ a. omega arith) w
-
-not-include : (r : Reading) → (tag_of the_type r ≡ 0) ⊎ (tag_of the_type r ≡ 2) → is_include r ≡ false
+not_include : (r : Reading) → ((a b : ℕ) → r ≡ Included a b → ⊥) → is_include r ≡ false
 unfolding is_include
-not-include (Copied a b) h = refl
-not-include (Included a b) h = absurd (none_of refl h)
-not-include (Shown a b c d) h = refl
+not_include (Copied a b) h = refl
+not_include (Included a b) h = absurd (h a b refl)
+not_include (Shown a b c d) h = refl
 
 pub loop-q-init : goal.loop-q-init
 loop-q-init t c = resolving-start _ _ _ _ c.requires.2 (c.nothing-known.ensures _)
@@ -91,10 +89,16 @@ pub put_newline-w-requires : goal.put_newline-w-requires
 put_newline-w-requires t c = λ z. record { place = omega (arith, (c.resolve-i.ensures.emits.goes z).fits); fits = c.requires.1.fits }
 
 pub shape_of-out-then-not-w : goal.shape_of-out-then-not-w
-shape_of-out-then-not-w t c = ⊎_elim (λ w. ap length w.18 ∙ w.15.ensures.size ∙ w.11.ensures.emits.size) (λ w. ap length w.1) c.match-what.branch ∙ c.put_read-w.ensures.size ∙ put-length c.put-q.ensures ∙ c.loop-q.invariant.size
+shape_of-out-then-not-w t c = elim c.match-what.branch [
+  | in-Include+else-not-f w ↦ ap length w.out-is ∙ w.put_newline-w.ensures.size ∙ w.resolve-i.ensures.emits.size
+  | in_default-what w ↦ ap length w.out-is
+] ∙ c.put_read-w.ensures.size ∙ put-length c.put-q.ensures ∙ c.loop-q.invariant.size
 
 pub returns-then-not-w : goal.returns-then-not-w
-returns-then-not-w t c = rw c.refused-then-not-w.ensures (resolving-refused _ _ _ _ c.loop-q.invariant c.next_mark-next.ensures c.put-q.ensures (search rules) c.in-Mark.mark c.read_mark-r.ensures {fine = c.match-what.w.ok} {u = c.match-what.w.next} (⊎_elim (λ w. came-inside _ c.put_read-w.ensures w.1.given.1 w.4.ensures (omega (arith, c.if-room-q.false)) (not-false _ w.6.left) w.11.ensures w.15.ensures w.18 w.19) (λ w. came-put _ c.put_read-w.ensures (not-include _ w.0.keys2) w.1 w.2) c.match-what.branch) (not-true _ c.if-not-w.true))
+returns-then-not-w t c = rw c.refused-then-not-w.ensures (resolving-refused _ _ _ _ c.loop-q.invariant c.next_mark-next.ensures c.put-q.ensures (search rules) c.in-Mark.mark c.read_mark-r.ensures {fine = c.match-what.w.ok} {u = c.match-what.w.next} (elim c.match-what.branch [
+  | in-Include+else-not-f w ↦ came-inside _ c.put_read-w.ensures w.in-Include.is w.open_file-f.ensures (omega (arith, c.if-room-q.false)) (not-false _ w.if-not-f.false) w.resolve-i.ensures w.put_newline-w.ensures w.out-is w.w-is
+  | in_default-what w ↦ came-put _ c.put_read-w.ensures (not_include _ w.in_default-what.not-Include) w.out-is w.w-is
+]) (not-true _ c.if-not-w.true))
 
 pub loop-q-smaller : goal.loop-q-smaller
 loop-q-smaller t c = let n = c.next_mark-next.ensures.before.on in
@@ -103,4 +107,7 @@ loop-q-smaller t c = let n = c.next_mark-next.ensures.before.on in
     omega (arith, mark-some c.in-Mark.mark)
 
 pub loop-q-preserved : goal.loop-q-preserved
-loop-q-preserved t c = resolving-on _ _ _ _ c.loop-q.invariant c.next_mark-next.ensures c.put-q.ensures (search rules) c.in-Mark.mark c.read_mark-r.ensures {fine = c.match-what.w.ok} {o = c.match-what.w.number} (⊎_elim (λ w. came-inside _ c.put_read-w.ensures w.1.given.1 w.4.ensures (omega (arith, c.if-room-q.false)) (not-false _ w.6.left) w.11.ensures w.15.ensures w.18 w.19) (λ w. came-put _ c.put_read-w.ensures (not-include _ w.0.keys2) w.1 w.2) c.match-what.branch) (not-false _ c.if-not-w.false)
+loop-q-preserved t c = resolving-on _ _ _ _ c.loop-q.invariant c.next_mark-next.ensures c.put-q.ensures (search rules) c.in-Mark.mark c.read_mark-r.ensures {fine = c.match-what.w.ok} {o = c.match-what.w.number} (elim c.match-what.branch [
+  | in-Include+else-not-f w ↦ came-inside _ c.put_read-w.ensures w.in-Include.is w.open_file-f.ensures (omega (arith, c.if-room-q.false)) (not-false _ w.if-not-f.false) w.resolve-i.ensures w.put_newline-w.ensures w.out-is w.w-is
+  | in_default-what w ↦ came-put _ c.put_read-w.ensures (not_include _ w.in_default-what.not-Include) w.out-is w.w-is
+]) (not-false _ c.if-not-w.false)

@@ -1,0 +1,13 @@
+use Rattle.std.proofs.Common.{rules}
+use borrow.Author.Tests.{not-true, not-false}
+use Rattle.definition_imports.specs.Import.{file_seven, file-six, file-read}
+use Rattle.definition_imports.proofs.file_target.Goals as goal
+
+pub returns-then-levels-eq0 : goal.returns-then-levels-eq0
+returns-then-levels-eq0 c = file_seven _ _ _ _ _ c.if-levels-eq0.true
+
+pub returns-then-not-is_ascii : goal.returns-then-not-is_ascii
+returns-then-not-is_ascii c = file-six _ _ _ _ _ c.if-levels-eq0.false c.is_ascii.ensures (not-true _ c.if-not-is_ascii.true-raw)
+
+pub returns : goal.returns
+returns c = file-read _ _ _ _ _ c.if-levels-eq0.false c.is_ascii.ensures (not-false _ c.if-not-is_ascii.false-raw) c.requires c.parent.ensures

@@ -1,0 +1,7 @@
+use Rattle.std.proofs.Common.{rules}
+use mathlib.Core.Path.{refl}
+use Rattle.binding.specs.Write.{none-source}
+use Rattle.values.proofs.none_value.Goals as goal
+
+pub returns : goal.returns
+returns c = record { fine = refl; place = refl; short = refl; source = none-source }
