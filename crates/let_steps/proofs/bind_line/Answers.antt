@@ -9,17 +9,14 @@ use lib.Seq.{length-take-le}
 use Rattle.let_steps.specs.Let.{line-there, bind-missing, bind-there}
 use Rattle.let_steps.proofs.bind_line.Goals as goal
 
-none_of : {x : ℕ} → x ≡ 0 → (x ≡ 1) ⊎ ((x ≡ 2) ⊎ (x ≡ 3)) → ⊥
-none_of h w = ⊎_elim (λ a. omega arith) (λ b. ⊎_elim (λ a. omega arith) (λ a. omega arith) b) w
-
 pub slice_bounds-lookup-end-2 : goal.slice_bounds-lookup-end-2
 slice_bounds-lookup-end-2 c = sym (length-take-le c.args.n c.args.left.now c.requires.0.inside)
 
 pub bind_found-requires : goal.bind_found-requires
-bind_found-requires c = (c.requires.0, line-there c.args.left.now c.args.n _ _ c.lookup-found.ensures c.requires.1 (λ h. none_of (ap (tag_of the_type) h) c.in_default.in_default-own.keys2))
+bind_found-requires c = (c.requires.0, line-there c.args.left.now c.args.n _ _ c.lookup-found.ensures c.requires.1 c.in_default.not-Missing)
 
 pub returns-in-Missing : goal.returns-in-Missing
 returns-in-Missing c = bind-missing _ _ _ _ c.lookup-found.ensures c.in-Missing.is c.bind_text.ensures
 
 pub returns-in_default : goal.returns-in_default
-returns-in_default c = bind-there _ _ _ _ c.lookup-found.ensures c.requires.1 (λ h. none_of (ap (tag_of the_type) h) c.in_default.in_default-own.keys2) c.bind_found.ensures
+returns-in_default c = bind-there _ _ _ _ c.lookup-found.ensures c.requires.1 c.in_default.not-Missing c.bind_found.ensures

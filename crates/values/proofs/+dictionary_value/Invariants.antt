@@ -1,4 +1,3 @@
--- MEMBER dictionary
 use Rattle.std.proofs.Common.{◌≡◌}
 use Prim.Native.Nat.{ℕ, ◌<◌}
 use mathlib.Core.Path.{sym, ◌∙◌}
@@ -12,26 +11,13 @@ use Rattle.values.specs.Dictionary.{value-quote, value_open, value_none, value-n
 use Rattle.values.proofs.+dictionary_value.Given as goal
 
 abbrev pub decreases-dictionary : goal.decreases-dictionary
-decreases-dictionary l = ? -- 2 * a.1.1.1.1.1.0
+decreases-dictionary l = 2 * l.levels
 
-abbrev pub invariant-loop-work : goal.invariant-loop-work
-invariant-loop-work l = Entering l.limit l.levels l.text l.at l.sheet l.initial.work l.work l.i l.n l.last
+abbrev pub invariant-dictionary-loop-work : goal.invariant-dictionary-loop-work
+invariant-dictionary-loop-work l = Entering l.limit l.levels l.text l.at l.sheet l.initial.work l.work l.i l.n l.last
 
-abbrev pub decreases-loop-work : goal.decreases-loop-work
-decreases-loop-work l = length l.text - l.i
-
--- MEMBER value
-use Rattle.std.proofs.Common.{◌≡◌}
-use Prim.Native.Nat.{ℕ, ◌<◌}
-use mathlib.Core.Path.{sym, ◌∙◌}
-use Prim.Native.Nat.{◌+◌, ◌-◌, ◌*◌}
-use native.Mathlib.Omega.{arith}
-use lib.ListN.{length}
-use lib.Seq.{length-take-le}
-use borrow.Author.Tests.{not-true, not-false}
-use Rattle.values.specs.Values.{slot_le, room-text}
-use Rattle.values.specs.Dictionary.{value-quote, value_open, value_none, value-name, value-other, dictionary_seven, Entering, entering-start, entering-two, entering-behind, entering_close, after-size, entry-bindable, entry-mark, entry-end, entry-source, entering-no, bound-size, entering-over, entering-on, entering-moves}
-use Rattle.values.proofs.+dictionary_value.Given as goal
+abbrev pub decreases-dictionary-loop-work : goal.decreases-dictionary-loop-work
+decreases-dictionary-loop-work l = length l.text - l.i
 
 abbrev pub decreases-value : goal.decreases-value
-decreases-value l = ? -- 2 * a.1.1.1.1.1.0 + 1
+decreases-value l = 2 * l.levels + 1
