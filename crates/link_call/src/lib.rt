@@ -1,5 +1,7 @@
 // The link call: an address, and a text in a content block behind it. The address is read to find its end, then to compare it, up to the first term
 // that differs, then to put it.
+#![tactic(auto)]
+
 ghost use Rattle.std.specs.Prelude.{◌≡◌, ◌||◌, ◌≤◌, ◌<◌, length, drop};
 ghost use Rattle.rules.specs.Reader.{empty, same};
 ghost use Rattle.rules.specs.Strings.{expression};
@@ -15,7 +17,7 @@ use scan::Set;
 
 // How a call ends: on its own `)` or `]`; where reading goes on; where the text of its content block begins and ends. Without one the text
 // is empty.
-#[derive(Drop)]
+#[derive(Clone, Copy)]
 pub struct Ending {
     pub whole: bool,
     pub at: usize,

@@ -1,4 +1,6 @@
 // The arguments of a raw call (document 01, section 5): its language, and whether it is a block.
+#![tactic(auto)]
+
 ghost use Rattle.std.specs.Prelude.{List, ℕ, ◌≤◌, length};
 ghost use Rattle.rules.specs.Sheet.{Lookup};
 ghost use Rattle.raw_arguments.specs.Args.{IsLanguage, Sets, IsArguments};
@@ -7,7 +9,7 @@ pub mod language_text;
 
 // What `lang` takes: a literal, from behind its quote; a reference's run; a part of the sheet, in which a reference was found. Without an argument it
 // is an empty part.
-#[derive(Drop)]
+#[derive(Clone, Copy)]
 pub enum Lang {
     Literal { from: usize },
     Reference { from: usize, to: usize },
@@ -15,7 +17,7 @@ pub enum Lang {
 }
 
 // What `lang` takes, and where reading goes on.
-#[derive(Drop)]
+#[derive(Clone, Copy)]
 pub struct LangRead {
     pub lang: Lang,
     pub at: usize,
@@ -41,7 +43,7 @@ fn language(text: &[u8], at: usize) -> LangRead
 }
 
 // What an argument sets, and where reading goes on: the language; block, on or off; nothing, under any other name.
-#[derive(Drop)]
+#[derive(Clone, Copy)]
 pub enum Setting {
     Language { lang: Lang, next: usize },
     Block { on: bool, next: usize },
@@ -69,7 +71,7 @@ fn argument(text: &[u8], at: usize) -> Setting
 }
 
 // What the arguments come to: has a round stalled, that is, moved by nothing; where reading goes on; the language; is it a block?
-#[derive(Drop)]
+#[derive(Clone, Copy)]
 pub struct Args {
     pub stalled: bool,
     pub at: usize,

@@ -1,4 +1,6 @@
 // A raw call's content (document 01, section 5): an expression, a file that is read, or a reference. It is measured when it is read.
+#![tactic(auto)]
+
 ghost use Rattle.std.specs.Prelude.{◌≡◌, true, List, ℕ, ◌+◌, ◌^◌, ◌≤◌, ◌<◌, length, drop};
 ghost use Rattle.rules.specs.Bundle.{bundle_of};
 ghost use Rattle.rules.specs.Files.{view, opened};
@@ -17,7 +19,7 @@ use calls::measure::Measure;
 use scan::Set;
 
 // Where a content stands: an expression, in the text; what a reference found, in the sheet; a file, in the bundle.
-#[derive(Drop)]
+#[derive(Clone, Copy)]
 pub enum Value {
     Expression { from: usize },
     Found { from: usize, to: usize },
@@ -25,7 +27,7 @@ pub enum Value {
 }
 
 // What a call's content is: a value, handed back, or refused.
-#[derive(Drop)]
+#[derive(Clone, Copy)]
 pub enum CallContent {
     Given(Value),
     HandedBack,
@@ -33,7 +35,7 @@ pub enum CallContent {
 }
 
 // The content, what it measures, and where reading goes on.
-#[derive(Drop)]
+#[derive(Clone, Copy)]
 pub struct ContentRead {
     pub content: CallContent,
     pub size: Measure,

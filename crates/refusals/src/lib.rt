@@ -1,4 +1,6 @@
 // What the program `manual` writes for a refusal (document 01, section 10).
+#![tactic(auto)]
+
 ghost use Rattle.std.specs.Prelude.{◌≤◌, length};
 ghost use Rattle.rules.specs.Answer.{refused};
 ghost use Rattle.rules.specs.Manual.{shown};
