@@ -87,7 +87,7 @@ fn bound_step(bound: Bound, at: usize, n: usize) -> Stepped
 }
 
 // What a file came to: has it a sheet; if not, the refusal's number; and the sheet's length.
-#[derive(Drop)]
+#[derive(Clone, Copy)]
 pub struct Parsed {
     pub ok: bool,
     pub number: u8,

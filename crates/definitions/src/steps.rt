@@ -12,7 +12,7 @@ use scan::Set;
 
 // What a step came to: is nothing refused; if something is, the refusal's number; where reading goes on, the sheet's length, and where
 // its last record was put, for the next step to search from; 0 if something is refused.
-#[derive(Drop)]
+#[derive(Clone, Copy)]
 pub struct Stepped {
     pub ok: bool,
     pub number: u8,
