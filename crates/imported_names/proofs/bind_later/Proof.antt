@@ -6,7 +6,7 @@ use Rattle.imported_names.proofs.bind_later.Lts as lts
 use Rattle.imported_names.proofs.bind_word.Reads as bind-word-reads
 use mathlib.Core.Path.{sym, ap}
 use Rattle.rules.specs.Definitions.{listed}
-use Rattle.imported_names.specs.Names.{none-bound, later-empty, later-some, names_as}
+use Rattle.imported_names.proofs.Names.{none-bound, later-empty, later-some, names_as}
 
 returns : tie.Need-returns
 returns c = names_as (ap listed (sym (later-empty _ (search rules)))) (none-bound c.before.before.before.before.requires.1)

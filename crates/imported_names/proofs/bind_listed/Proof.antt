@@ -6,8 +6,8 @@ use Rattle.imported_names.proofs.bind_listed.Lts as lts
 use Rattle.imported_names.proofs.bind_more.Reads as bind-more-reads
 use Rattle.imported_names.proofs.bind_word.Reads as bind-word-reads
 use Rattle.scan.proofs.span.Reads as span-reads
-use Rattle.imported_names.specs.Names.{word-is, ready_on}
-use Rattle.imported_names.specs.Words.{words-over, words-then}
+use Rattle.imported_names.proofs.Names.{word-is, ready_on}
+use Rattle.imported_names.proofs.Words.{words-over, words-then}
 
 span-requires : tie.Need-span-requires
 span-requires c κs = search rules

@@ -11,8 +11,8 @@ use Prim.Native.Nat.{◌-◌}
 use lib.ListN.{length}
 use native.Mathlib.Omega.{arith}
 use borrow.Author.Tests.{not-true, not-false}
-use Rattle.imported_names.specs.Names.{word-is}
-use Rattle.imported_names.specs.Words.{BindingMore, more-start, more-end, more-over, more-on}
+use Rattle.imported_names.proofs.Names.{word-is}
+use Rattle.imported_names.proofs.Words.{BindingMore, more-start, more-end, more-over, more-on}
 
 abbrev invariant-loop : tie.invariant-loop
 invariant-loop text at other left₀ n limit i₀ len₀ t14 left i len = BindingMore text at other left₀ n limit left len i

@@ -6,8 +6,8 @@ use Rattle.imported_names.proofs.bind_names.Lts as lts
 use Rattle.imported_names.proofs.bind_all.Reads as bind-all-reads
 use Rattle.imported_names.proofs.bind_listed.Reads as bind-listed-reads
 use Rattle.scan.proofs.starts_with.Reads as starts-with-reads
-use Rattle.imported_names.specs.Names.{names_as}
-use Rattle.imported_names.specs.Words.{names-star, names-words}
+use Rattle.imported_names.proofs.Names.{names_as}
+use Rattle.imported_names.proofs.Words.{names-star, names-words}
 
 slice-aggregate-starts-with : tie.Need-slice-aggregate-starts-with
 slice-aggregate-starts-with c = search rules

@@ -11,7 +11,7 @@ use Prim.Native.Nat.{ℕ}
 use native.Mathlib.Omega.{arith}
 use denote.Enum.Declared.{tag_of}
 use Rattle.sheet.specs.contracts.lookup.Found.{the_type}
-use Rattle.imported_names.specs.Names.{word-bindable, word-there, word-missing, word_bound}
+use Rattle.imported_names.proofs.Names.{word-bindable, word-there, word-missing, word_bound}
 
 none_of : {x : ℕ} → x ≡ 0 → (x ≡ 1) ⊎ ((x ≡ 2) ⊎ (x ≡ 3)) → ⊥
 none_of h w = ⊎_elim (λ a. omega arith) (λ b. ⊎_elim (λ a. omega arith) (λ a. omega arith) b) w
