@@ -25,7 +25,7 @@ use Rattle.bundle.specs.declared.Found.{Found}
 use Rattle.bundle.specs.declared.Found.TheVariants.{Absent, Folder, File as At}
 use Rattle.strings.specs.Read.{Wrote}
 use Rattle.strings.specs.Paths.{PathIn, path-in}
-use Rattle.imported_names.specs.Words.{names-line}
+use Rattle.imported_names.proofs.Words.{names-line}
 use Rattle.definition_imports.specs.declared.Import.{Import}
 use Rattle.definition_imports.specs.declared.Target.{Target}
 use Rattle.definition_imports.specs.declared.Target.TheVariants.{Nothing, Refused, File as Found_at}

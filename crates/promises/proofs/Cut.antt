@@ -2,15 +2,10 @@
 use Rattle.std.specs.Prelude.{◌≡◌, List, true, ℕ}
 use Rattle.std.proofs.Common.{sym, ◌∙◌}
 use Rattle.rules.specs.Calls.{Setting, pass_of}
-use Rattle.rules.specs.Parts.{passes, joined, closed_parts, all_accepted, outputs, output_of, last_sheet, sheet_left}
+use Rattle.rules.specs.Parts.{passes, joined, closed_parts, outputs, last_sheet}
 use Rattle.rules.proofs.Laws.Parts.{one-is_many, answers}
 use Rattle.rules.proofs.Laws.Calls.{pass_accepted}
-
--- The passes over the parts p, ps from a sheet, beside one pass over the joined text.
-pub record Agree (k : Setting) (sheet p : List ℕ) (ps : List (List ℕ)) : Type 0 where
-  pub accepted : all_accepted (passes k sheet p ps) ≡ true
-  pub same-output : outputs (passes k sheet p ps) ≡ output_of (pass_of k sheet (joined p ps))
-  pub same-sheet : last_sheet (passes k sheet p ps) ≡ sheet_left (pass_of k sheet (joined p ps))
+use Rattle.promises.specs.Cut.{Agree}
 
 -- Any list of one part or more, each but the last closed, beside one accepted pass over the joined text:
 -- every pass is accepted, the outputs joined are its output, the last sheet left is its sheet.

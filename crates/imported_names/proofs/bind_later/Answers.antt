@@ -1,7 +1,7 @@
 use Rattle.std.proofs.Common.{rules}
 use mathlib.Core.Path.{sym, ap}
 use Rattle.rules.specs.Definitions.{listed}
-use Rattle.imported_names.specs.Names.{none-bound, later-empty, later-some, names_as}
+use Rattle.imported_names.proofs.Names.{none-bound, later-empty, later-some, names_as}
 use Rattle.imported_names.proofs.bind_later.Goals as goal
 
 pub returns-then-word-eq0 : goal.returns-then-word-eq0

@@ -1,6 +1,6 @@
 use Rattle.std.proofs.Common.{rules}
-use Rattle.imported_names.specs.Names.{word-is, ready_on}
-use Rattle.imported_names.specs.Words.{words-over, words-then}
+use Rattle.imported_names.proofs.Names.{word-is, ready_on}
+use Rattle.imported_names.proofs.Words.{words-over, words-then}
 use Rattle.imported_names.proofs.bind_listed.Goals as goal
 
 pub bind_word-first-requires : goal.bind_word-first-requires

@@ -4,8 +4,8 @@ use Prim.Native.Nat.{◌-◌}
 use lib.ListN.{length}
 use native.Mathlib.Omega.{arith}
 use borrow.Author.Tests.{not-true, not-false}
-use Rattle.imported_names.specs.Names.{word-is}
-use Rattle.imported_names.specs.Words.{BindingMore, more-start, more-end, more-over, more-on}
+use Rattle.imported_names.proofs.Names.{word-is}
+use Rattle.imported_names.proofs.Words.{BindingMore, more-start, more-end, more-over, more-on}
 use Rattle.imported_names.proofs.bind_more.Goals as goal
 
 pub loop-at-init : goal.loop-at-init

@@ -1,6 +1,6 @@
 use Rattle.std.proofs.Common.{rules}
-use Rattle.imported_names.specs.Names.{names_as}
-use Rattle.imported_names.specs.Words.{names-star, names-words}
+use Rattle.imported_names.proofs.Names.{names_as}
+use Rattle.imported_names.proofs.Words.{names-star, names-words}
 use Rattle.imported_names.proofs.bind_names.Goals as goal
 
 pub returns-then-starts_with : goal.returns-then-starts_with

@@ -5,7 +5,7 @@ use Prim.Native.Nat.{ℕ}
 use native.Mathlib.Omega.{arith}
 use denote.Enum.Declared.{tag_of}
 use Rattle.sheet.specs.contracts.lookup.Found.{the_type}
-use Rattle.imported_names.specs.Names.{word-bindable, word-there, word-missing, word_bound}
+use Rattle.imported_names.proofs.Names.{word-bindable, word-there, word-missing, word_bound}
 use Rattle.imported_names.proofs.bind_word.Goals as goal
 
 pub lookup-found-requires : goal.lookup-found-requires
