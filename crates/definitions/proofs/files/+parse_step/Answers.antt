@@ -46,7 +46,6 @@ parse-shape_of-work t c = c.loop-i.invariant.0
 pub parse-returns : goal.parse-returns
 parse-returns t c = parsed _ _ _ _ c.requires.1 c.loop-i.invariant.1 (search rules) c.loop-i.invariant.0
 
-
 pub step-other_step-requires : goal.step-other_step-requires
 step-other_step-requires t c = (c.requires.1, c.requires.2, starts_as c.starts_with.ensures (not-true _ c.if-not-starts_with.true-raw), c.requires.3, room-value _ c.requires.4, c.requires.5)
 

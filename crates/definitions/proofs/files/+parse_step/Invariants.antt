@@ -25,6 +25,5 @@ invariant-parse-loop-i l = (length l.work ≡ length l.initial.work) × Parsing 
 abbrev pub decreases-parse-loop-i : goal.decreases-parse-loop-i
 decreases-parse-loop-i l = length l.text - l.i
 
-
 abbrev pub decreases-step : goal.decreases-step
 decreases-step l = 2 * l.levels
