@@ -4,6 +4,7 @@ import subprocess
 import sys
 
 ROOT = os.path.dirname(os.path.dirname(os.path.abspath(__file__)))
+CRATES = os.path.join(ROOT, 'crates')
 
 
 def say(name, text):
@@ -11,28 +12,41 @@ def say(name, text):
 
 
 def program_path(name):
-    return os.path.join(ROOT, 'target', 'bin', name)
+    return os.path.join(CRATES, name, 'out', name)
 
 
 def last_change():
-    """When the sources were last changed, by the times of crates.txt and of each file and folder below crates/."""
+    """When the sources were last changed, by the times of crates.txt and of each file and folder below crates/; what rt makes, in the
+    crates' folders out/, is none."""
     paths = [os.path.join(ROOT, 'crates.txt')]
-    for here, _, names in os.walk(os.path.join(ROOT, 'crates')):
+    for here, folders, names in os.walk(CRATES):
+        if os.path.dirname(here) == CRATES:
+            folders[:] = [folder for folder in folders if folder != 'out']
         paths += [here] + [os.path.join(here, file) for file in names]
     return max((os.lstat(path).st_mtime_ns for path in paths if os.path.lexists(path)), default=0)
 
 
+def make_out():
+    """Makes each crate's out/, so that no crate's folder changes when rt makes it."""
+    for crate in os.listdir(CRATES):
+        if os.path.isdir(os.path.join(CRATES, crate)):
+            os.makedirs(os.path.join(CRATES, crate, 'out'), exist_ok=True)
+
+
 def ready(name):
     """Is the program there and as new as its sources, or can it be built."""
-    program, changed = program_path(name), last_change()
+    program = program_path(name)
     if not os.path.exists(program):
-        say(name, f'the program is not there yet; proving and building it with `rt check {name}`')
-    elif os.stat(program).st_mtime_ns < changed:
-        say(name, f'the program is older than its sources; proving and building it with `rt check {name}`')
+        say(name, f'the program is not there yet; proving and building it with `rt run` in crates/{name}')
+    elif os.stat(program).st_mtime_ns < last_change():
+        say(name, f'the program is older than its sources; proving and building it with `rt run` in crates/{name}')
     else:
         return True
     try:
-        checked = subprocess.run(['rt', 'check', name], cwd=ROOT, stdout=sys.stderr, check=False)
+        make_out()
+        changed = last_change()
+        # It also runs the program, on no input; rt's own lines go to standard error.
+        checked = subprocess.run(['rt', 'run'], cwd=os.path.join(CRATES, name), stdin=subprocess.DEVNULL, stdout=subprocess.DEVNULL, check=False)
     except OSError as e:
         say(name, f'rt cannot be run: {e.strerror}')
         return False

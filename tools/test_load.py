@@ -23,7 +23,7 @@ class Load(unittest.TestCase):
         os.makedirs(self.tools)
         for name in ('programs.py', 'load'):
             shutil.copy(os.path.join(TOOLS, name), self.tools)
-        self.program = os.path.join(holder.name, 'target', 'bin', 'load')
+        self.program = os.path.join(holder.name, 'crates', 'load', 'out', 'load')
         os.makedirs(os.path.dirname(self.program))
         self.stand_in(HEX)
 

@@ -8,7 +8,8 @@ import unittest
 
 TOOLS = os.path.dirname(os.path.abspath(__file__))
 ECHO = '#!/bin/sh\nwc -c | tr -d " "\nexit 0\n'
-SOURCES = ('crates.txt', 'crates', 'crates/a', 'crates/a/src', 'crates/a/src/lib')
+PROGRAM = 'crates/manual/out/manual'
+SOURCES = ('crates.txt', 'crates', 'crates/a', 'crates/a/src', 'crates/a/src/lib', 'crates/manual')
 
 
 class Manual(unittest.TestCase):
@@ -19,6 +20,7 @@ class Manual(unittest.TestCase):
         self.folder = os.path.join(self.root, 'folder')
         os.makedirs(os.path.join(self.root, 'tools'))
         os.makedirs(os.path.join(self.root, 'bin'))
+        os.makedirs(os.path.join(self.root, 'crates', 'manual'))
         for name in ('pack', 'programs.py', 'manual'):
             shutil.copy(os.path.join(TOOLS, name), os.path.join(self.root, 'tools', name))
         self.put('folder/main.typ', 'ten\n')
@@ -31,7 +33,7 @@ class Manual(unittest.TestCase):
         os.chmod(path, mode)
 
     def program(self, script):
-        self.put('target/bin/manual', script, 0o755)
+        self.put(PROGRAM, script, 0o755)
 
     def run_manual(self):
         path = os.path.join(self.root, 'bin') + os.pathsep + os.environ['PATH']
@@ -77,10 +79,11 @@ class Manual(unittest.TestCase):
         self.assertIn(b'a b: ', r.stderr)
 
     def rt(self, ends=0, then=':'):
-        """Stands in for rt: `rt check manual` makes a program that answers as ECHO, and a line in `runs`."""
+        """Stands in for rt: `rt run` in crates/manual makes a program that answers as ECHO, and a line in `runs`."""
         self.put('echo', ECHO, 0o755)
-        made = 'mkdir -p target/bin && cp echo target/bin/manual && echo ran >> runs'
-        self.put('bin/rt', f'#!/bin/sh\n[ "$*" = "check manual" ] && {made} && {then}\nexit {ends}\n', 0o755)
+        made = 'mkdir -p out && cp ../../echo out/manual && echo ran >> ../../runs'
+        at = f'[ "$(pwd -P)" = "{os.path.realpath(self.root)}/crates/manual" ]'
+        self.put('bin/rt', f'#!/bin/sh\n[ "$*" = "run" ] && {at} && {made} && {then}\nexit {ends}\n', 0o755)
 
     def runs(self):
         path = os.path.join(self.root, 'runs')
@@ -97,6 +100,7 @@ class Manual(unittest.TestCase):
         """Sources of the time 100, and a program that answers otherwise than what rt builds."""
         self.rt()
         self.put('crates/a/src/lib', 'x')
+        os.makedirs(os.path.join(self.root, 'crates', 'a', 'out'), exist_ok=True)
         self.put('crates.txt', 'a:')
         self.program('#!/bin/sh\ncat > /dev/null\necho old\n')
         self.at(100, *SOURCES)
@@ -105,12 +109,12 @@ class Manual(unittest.TestCase):
         self.rt()
         r = self.run_manual()
         self.assertEqual((r.returncode, r.stdout), (0, b'18\n'))
-        self.assertIn(b'rt check manual', r.stderr)
+        self.assertIn(b'`rt run` in crates/manual', r.stderr)
 
     def test_the_program_is_kept_where_it_is_as_new_as_its_sources(self):
         self.built_before()
         for time in (100, 101):
-            self.at(time, 'target/bin/manual')
+            self.at(time, PROGRAM)
             r = self.run_manual()
             self.assertEqual((r.returncode, r.stdout, r.stderr), (0, b'old\n', b''))
         self.assertEqual(self.runs(), 0)
@@ -118,24 +122,32 @@ class Manual(unittest.TestCase):
     def test_the_program_is_built_once_where_a_source_is_newer(self):
         for n, path in enumerate(SOURCES):
             self.built_before()
-            self.at(101, 'target/bin/manual')
+            self.at(101, PROGRAM)
             self.at(102, path)
             r = self.run_manual()
             self.assertEqual((r.returncode, r.stdout), (0, b'18\n'), path)
             self.assertIn(b'older than its sources', r.stderr)
             self.assertEqual((self.run_manual().stderr, self.runs()), (b'', n + 1))
 
+    def test_what_rt_makes_is_no_source(self):
+        self.built_before()
+        os.rmdir(os.path.join(self.root, 'crates', 'a', 'out'))
+        self.rt(then='mkdir -p ../a/out && echo y > ../a/out/made')
+        self.at(99, PROGRAM)
+        self.assertIn(b'older than its sources', self.run_manual().stderr)
+        self.assertEqual((self.run_manual().stderr, self.runs()), (b'', 1))
+
     def test_a_source_that_changes_during_the_check_is_newer(self):
         self.built_before()
-        self.rt(then='echo y > crates/a/src/lib')
-        self.at(99, 'target/bin/manual')
+        self.rt(then='echo y > ../a/src/lib')
+        self.at(99, PROGRAM)
         self.run_manual()
         self.assertIn(b'older than its sources', self.run_manual().stderr)
 
     def test_an_older_program_is_not_run_where_the_check_fails(self):
         self.built_before()
         self.rt(ends=1)
-        self.at(99, 'target/bin/manual')
+        self.at(99, PROGRAM)
         r = self.run_manual()
         self.assertEqual((r.returncode, r.stdout), (1, b''))
         self.assertIn(b'not proved', r.stderr)

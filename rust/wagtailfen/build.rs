@@ -3,8 +3,8 @@ use std::env;
 use std::path::{Path, PathBuf};
 use std::process::exit;
 
-/// Where `rt staticlib wagtailfen` writes the library; the environment variable goes before it.
-const FOLDER: &str = "../../target/staticlib";
+/// Where `rt lib` in crates/wagtailfen writes the library; the environment variable goes before it.
+const FOLDER: &str = "../../crates/wagtailfen/out";
 const VARIABLE: &str = "WAGTAILFEN_LIB";
 
 fn main() {
@@ -23,8 +23,8 @@ fn main() {
 
 fn missing(folder: &Path) -> ! {
     println!(
-        "cargo::error=libwagtailfen.a is not in {}. Make it by `rt staticlib wagtailfen` in the project's root, or set {VARIABLE} to \
-         the folder that holds it.",
+        "cargo::error=libwagtailfen.a is not in {}. Make it by `rt lib` in crates/wagtailfen, or set {VARIABLE} to the folder that \
+         holds it.",
         folder.display()
     );
     exit(1)

@@ -1,7 +1,10 @@
 // The cases of a test program: fields of bytes behind each other, what a buffer must hold, and the report.
-ghost use Rattle.std.specs.Prelude.{◌+◌, ◌≤◌, ◌<◌, length};
+#![tactic(auto)]
 
-use libc::STDOUT_FILENO;
+ghost use Rattle.std.specs.Prelude.{◌+◌, ◌≤◌, ◌<◌, ◌++◌, length, OnOk, codes, decimal};
+ghost use Rattle.std.specs.Io.KnownBytes.{Appends};
+
+use std::io::{Result, Write};
 
 // A byte as a number.
 fn wide(x: u8) -> usize
@@ -82,11 +85,11 @@ pub fn holds(out: &[u8], text: &[u8]) -> bool {
     text.len() <= out.len()
 }
 
-// Prints the number of a case that differs.
-pub fn differs(case: u64) {
-    io::write_all(STDOUT_FILENO, b"differs: case ");
-    io::print_decimal(STDOUT_FILENO, case);
-    io::write_all(STDOUT_FILENO, b"\n");
+// Writes the number of a case that differs.
+pub fn differs<W: Write>(case: u64, out: &mut W) -> Result<()>
+    ensures { OnOk result (Appends (W.contents out.old) (W.contents out.new) (codes "differs: case " ++ decimal case ++ codes "\n")) }
+{
+    writeln!(out, "differs: case {case}")
 }
 
 // What was replayed.
@@ -96,10 +99,11 @@ pub struct Tally {
     pub differing: u64,
 }
 
-// Prints how many cases there were, and how many differ.
-pub fn report(tally: Tally) {
-    io::print_decimal(STDOUT_FILENO, tally.cases);
-    io::write_all(STDOUT_FILENO, b" cases, ");
-    io::print_decimal(STDOUT_FILENO, tally.differing);
-    io::write_all(STDOUT_FILENO, b" differ\n");
+// Writes how many cases there were, and how many differ.
+pub fn report<W: Write>(tally: Tally, out: &mut W) -> Result<()>
+    ensures { OnOk result (Appends (W.contents out.old) (W.contents out.new) (decimal tally.cases ++ codes " cases, " ++ decimal tally.differing ++ codes " differ\n")) }
+{
+    let cases = tally.cases;
+    let differing = tally.differing;
+    writeln!(out, "{cases} cases, {differing} differ")
 }

@@ -1,9 +1,11 @@
 // Replays fixed vectors: calls with the answers that they must have (crates/lines/README.md has their form, and says how they were
 // made). It prints each case that differs, and how many there were.
-ghost use Rattle.std.specs.Prelude.{◌≡◌, ◌+◌, ◌<◌, ◌≤◌, length};
-ghost use Rattle.io.specs.Counts.{IsPrefixLen};
+#![tactic(auto)]
+
+ghost use Rattle.std.specs.Prelude.{◌≡◌, ◌+◌, ◌<◌, ◌≤◌, length, take};
 
 use cases::{Tally, behind, differs, field, holds, short_at};
+use std::io::{Result, Write};
 
 // A buffer for a call: filled, so that a byte that the call leaves as it was is seen.
 fn buffer() -> [u8; 4096]
@@ -14,7 +16,7 @@ fn buffer() -> [u8; 4096]
 
 // The length that a text's answer asks of its buffer; 0 where the answer is cut short or asks for more than there is.
 fn room(answer: &[u8], out: &[u8]) -> usize
-    ensures { IsPrefixLen result out.now }
+    ensures { (result ≤ length out.now) × (result ≡ length (take result out.now)) }
 {
     if answer.len() < 3 {
         return 0;
@@ -242,8 +244,8 @@ fn replay_case(tag: u8, case: &[u8]) -> Done
     }
 }
 
-// Every case of the input.
-fn replay(input: &[u8]) -> Tally {
+// Every case of the input; each that differs is written.
+fn replay<W: Write>(input: &[u8], out: &mut W) -> Result<Tally> {
     let mut at: usize = 0;
     let mut cases: u64 = 0;
     let mut differing: u64 = 0;
@@ -252,16 +254,13 @@ fn replay(input: &[u8]) -> Tally {
         at += 1;
         let done = replay_case(tag, &input[at..]);
         if !done.same {
-            differs(cases);
-            differing = std::num::wrapping_add_u64(differing, 1);
+            differs(cases, out)?;
+            differing = differing.wrapping_add(1);
         }
-        cases = std::num::wrapping_add_u64(cases, 1);
+        cases = cases.wrapping_add(1);
         at += done.len;
     }
-    Tally {
-        cases: cases,
-        differing: differing,
-    }
+    Ok(Tally { cases, differing })
 }
 
 // A buffer for the whole input.
@@ -271,8 +270,10 @@ fn input_buffer() -> [u8; 196608]
     [0; 196608]
 }
 
-fn main() {
+fn main(rt: HostRuntime) -> Result<()> {
     let mut input = input_buffer();
-    let n = io::read_full(0, &mut input);
-    cases::report(replay(&input[..n]));
+    let n = input::read_full(&mut rt.stdin(), &mut input)?;
+    let mut out = rt.stdout();
+    let tally = replay(&input[..n], &mut out)?;
+    cases::report(tally, &mut out)
 }

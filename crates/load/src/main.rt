@@ -1,8 +1,10 @@
 // The program `load` (E2): a seed on standard input, four bytes, low byte first, and behind them a byte, 0 for a document, any other for definitions;
 // the load of the seed on standard output. Bytes that are not there count as 0.
+#![tactic(auto)]
+
 ghost use Rattle.std.specs.Prelude.{◌≡◌, ◌+◌, ◌*◌, length};
 
-use libc::STDOUT_FILENO;
+use std::io::{Result, Write};
 
 // A number of 32 bits, low byte first.
 fn word32(a: u8, b: u8, c: u8, d: u8) -> u32
@@ -18,12 +20,12 @@ fn output_buffer() -> [u8; 448]
     [0; 448]
 }
 
-fn main() {
+fn main(rt: HostRuntime) -> Result<()> {
     let mut input: [u8; 5] = [0; 5];
     let mut out = output_buffer();
-    io::read_full(0, &mut input);
+    input::read_full(&mut rt.stdin(), &mut input)?;
     let seed = word32(input[0], input[1], input[2], input[3]);
     let t = test_load::test_load(seed, input[4] != 0, &mut out);
     let len = t.len;
-    io::write_all(STDOUT_FILENO, &out[..len]);
+    rt.stdout().write_all(&out[..len])
 }

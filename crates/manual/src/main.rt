@@ -1,8 +1,10 @@
 // The program `manual` (document 01, section 10): a bundle on standard input, its manual on standard output. One byte more than a bundle
 // may have is read, so that a longer one is seen.
+#![tactic(auto)]
+
 ghost use Rattle.std.specs.Prelude.{◌≡◌, length};
 
-use libc::STDOUT_FILENO;
+use std::io::{Result, Write};
 
 fn input_buffer() -> [u8; 16385]
     ensures { 16385 ≡ length result }
@@ -16,10 +18,10 @@ fn output_buffer() -> [u8; 32768]
     [0; 32768]
 }
 
-fn main() {
+fn main(rt: HostRuntime) -> Result<()> {
     let mut input = input_buffer();
     let mut out = output_buffer();
-    let n = io::read_full(0, &mut input);
+    let n = input::read_full(&mut rt.stdin(), &mut input)?;
     let len = manual_text::manual(&input[..n], &mut out);
-    io::write_all(STDOUT_FILENO, &out[..len]);
+    rt.stdout().write_all(&out[..len])
 }

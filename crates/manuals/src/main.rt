@@ -1,8 +1,11 @@
 // Replays bundles with what `manual` must write for them (crates/manuals/README.md). It prints each case that differs, and how many
 // there were.
+#![tactic(auto)]
+
 ghost use Rattle.std.specs.Prelude.{◌≡◌, length};
 
 use cases::{Tally, differs, holds, part_at};
+use std::io::{Result, Write};
 
 // A buffer for a manual: filled, so that a byte that is left as it was is seen.
 fn output_buffer() -> [u8; 32768]
@@ -18,8 +21,8 @@ fn manual_same(bundle: &[u8], text: &[u8]) -> bool {
     (n == text.len()) & holds(&out, text)
 }
 
-// Every case of the input: two fields, the bundle and the text.
-fn replay(input: &[u8]) -> Tally {
+// Every case of the input, two fields, the bundle and the text; each that differs is written.
+fn replay<W: Write>(input: &[u8], out: &mut W) -> Result<Tally> {
     let mut at: usize = 0;
     let mut cases: u64 = 0;
     let mut differing: u64 = 0;
@@ -31,16 +34,13 @@ fn replay(input: &[u8]) -> Tally {
         let start = text.from;
         let end = text.to;
         if !manual_same(&input[from..to], &input[start..end]) {
-            differs(cases);
-            differing = std::num::wrapping_add_u64(differing, 1);
+            differs(cases, out)?;
+            differing = differing.wrapping_add(1);
         }
-        cases = std::num::wrapping_add_u64(cases, 1);
+        cases = cases.wrapping_add(1);
         at = end;
     }
-    Tally {
-        cases: cases,
-        differing: differing,
-    }
+    Ok(Tally { cases, differing })
 }
 
 // A buffer for the whole input.
@@ -50,8 +50,10 @@ fn input_buffer() -> [u8; 196608]
     [0; 196608]
 }
 
-fn main() {
+fn main(rt: HostRuntime) -> Result<()> {
     let mut input = input_buffer();
-    let n = io::read_full(0, &mut input);
-    cases::report(replay(&input[..n]));
+    let n = input::read_full(&mut rt.stdin(), &mut input)?;
+    let mut out = rt.stdout();
+    let tally = replay(&input[..n], &mut out)?;
+    cases::report(tally, &mut out)
 }

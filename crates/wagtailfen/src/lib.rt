@@ -1,5 +1,7 @@
 // The C interface: the public calls under C names (include/wagtailfen.h). A slice is a pointer and then a length; answers are
 // returned by value.
+#![tactic(auto)]
+
 ghost use Rattle.std.specs.Prelude.{◌≡◌, length};
 ghost use Rattle.rules.specs.Calls.{resolve_of, resolve_includes_of, test_load_of, preprocess_typst_of, find_file_of, parse_definitions_of, pass_of};
 
@@ -71,7 +73,7 @@ pub extern "C" fn wf_pass(
     out: &mut [u8],
     left: &mut [u8],
 ) -> builder::Passed
-    ensures { pass_of (record { bundle = bundle.entry.now; folder = folder.now; middle_len = length middle.old; out_len = length out.old; left_len = length left.old }) sheet.now text.now ≡ record { number = result.number; len = result.len; sheet_len = result.sheet; closed = result.closed; middle = middle.new; out = out.new; left = left.new } }
+    ensures { pass_of (record { bundle = bundle.now; folder = folder.now; middle_len = length middle.old; out_len = length out.old; left_len = length left.old }) sheet.now text.now ≡ record { number = result.number; len = result.len; sheet_len = result.sheet; closed = result.closed; middle = middle.new; out = out.new; left = left.new } }
 {
     builder::pass(bundle, folder, text, sheet, middle, out, left)
 }
