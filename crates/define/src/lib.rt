@@ -1,5 +1,7 @@
 // The definitions call (01, section 7) up to the clearing of its buffers: what it answers, with the sheet at the start of its buffer. What
 // stands behind the sheet, and in the work buffer, is not cleared.
+#![tactic(auto)]
+
 ghost use Rattle.std.specs.Prelude.{◌≡◌, true, ◌+◌, ◌*◌, ◌≤◌, length, take, drop};
 ghost use Rattle.rules.specs.Bytes.{parent};
 ghost use Rattle.rules.specs.Bundle.{bundle_of};
@@ -14,7 +16,7 @@ use arguments::sheet_limit;
 use bundle::Opened;
 
 // What the call came to: its number, and the length of the sheet that stands in its buffer.
-#[derive(Drop)]
+#[derive(Clone, Copy)]
 pub struct Outcome {
     pub number: u8,
     pub sheet: usize,

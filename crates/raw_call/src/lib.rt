@@ -1,4 +1,6 @@
 // The raw call (document 01, section 5): read whole and measured; then 11 is decided; then it is written.
+#![tactic(auto)]
+
 ghost use Rattle.std.specs.Prelude.{◌≡◌, true, false, [], ◌-◌, ◌≤◌, length, take, drop};
 ghost use Rattle.std.proofs.lemmas.List.Edits.{sets};
 ghost use Rattle.rules.specs.Bundle.{bundle_of};
