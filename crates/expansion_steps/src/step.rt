@@ -42,7 +42,7 @@ fn writing_step(
 
 // What a step came to: has all been written and the sheet stayed within its limit; if not, the refusal's number; is it whole
 // (section 6); where reading goes on, the writer, and the sheet's length.
-#[derive(Drop)]
+#[derive(Clone, Copy)]
 pub struct Stepped {
     pub ok: bool,
     pub number: u8,
