@@ -1,4 +1,6 @@
 // The run of the expansion (document 01, section 5): plain text, and the step at each `#`.
+#![tactic(auto)]
+
 ghost use Rattle.std.specs.Prelude.{◌≡◌, true};
 ghost use Rattle.rules.specs.Reader.{all};
 ghost use Rattle.rules.specs.Bytes.{ascii};
@@ -12,7 +14,7 @@ ghost use Rattle.expansion.specs.Run.{Expands};
 
 // What expanding a text came to: has all been written and the sheet stayed within its limit; if not, the refusal's number; where the
 // writer goes on and the sheet's length; and, if all has been written, whether each step is whole (section 6).
-#[derive(Drop)]
+#[derive(Clone, Copy)]
 pub struct Expanded {
     pub ok: bool,
     pub number: u8,
