@@ -1,5 +1,7 @@
 // The include call, the expansion call and the pass up to the clearing of their buffers: what they answer, with the results at the starts
 // of the buffers. What stands behind the results is not cleared.
+#![tactic(auto)]
+
 ghost use Rattle.std.specs.Prelude.{◌≡◌};
 ghost use Rattle.runs.specs.Outcome.{refused_outcome};
 
@@ -8,7 +10,7 @@ pub mod include_call;
 pub mod pass_call;
 
 // What a call came to: its number; the lengths of the text and of the sheet that stand in its buffers; is the text closed?
-#[derive(Drop)]
+#[derive(Clone, Copy)]
 pub struct Outcome {
     pub number: u8,
     pub len: usize,
