@@ -1,11 +1,13 @@
 // The public calls. Each meets one equation with its definition in the rules (crates/rules/specs/Calls.antt), for every input:
 // the answer, and the whole contents of every writable buffer, accepted and refused alike.
+#![tactic(auto)]
+
 ghost use Rattle.std.specs.Prelude.{◌≡◌, length};
 ghost use Rattle.rules.specs.Calls.{resolve_of, resolve_includes_of, test_load_of, preprocess_typst_of, parse_definitions_of, pass_of, find_file_of};
 
 // A lookup's answer. Kind: 0 missing, 1 none, 2 text, 3 dictionary. Of a text, its length in the output buffer; else 0.
 #[repr(C)]
-#[derive(Drop)]
+#[derive(Clone, Copy)]
 pub struct Resolved {
     pub number: u8,
     pub kind: u8,
@@ -14,7 +16,7 @@ pub struct Resolved {
 
 // A text's answer: its length in the output buffer.
 #[repr(C)]
-#[derive(Drop)]
+#[derive(Clone, Copy)]
 pub struct Text {
     pub number: u8,
     pub len: usize,
@@ -60,7 +62,7 @@ pub fn test_load(seed: u32, definitions: bool, out: &mut [u8]) -> Text
 
 // An expansion's answer: the lengths of the text in the output buffer and of the sheet that is left.
 #[repr(C)]
-#[derive(Drop)]
+#[derive(Clone, Copy)]
 pub struct Expanded {
     pub number: u8,
     pub len: usize,
@@ -89,7 +91,7 @@ pub fn preprocess_typst(
 
 // The answer of the definitions call: the length of the sheet.
 #[repr(C)]
-#[derive(Drop)]
+#[derive(Clone, Copy)]
 pub struct Defined {
     pub number: u8,
     pub sheet: usize,
@@ -110,7 +112,7 @@ pub fn parse_definitions(bundle: &[u8], path: &[u8], left: &mut [u8], work: &mut
 
 // A pass's answer: the lengths of the text in the output buffer and of the sheet that is left, and whether the text is closed.
 #[repr(C)]
-#[derive(Drop)]
+#[derive(Clone, Copy)]
 pub struct Passed {
     pub number: u8,
     pub len: usize,
@@ -145,7 +147,7 @@ pub fn pass(
 
 // What a path is in a bundle. Kind: 0 absent, 1 folder, 2 file; a file's content stands at `start` in the bundle.
 #[repr(C)]
-#[derive(Drop)]
+#[derive(Clone, Copy)]
 pub struct FoundFile {
     pub number: u8,
     pub kind: u8,
