@@ -1,11 +1,13 @@
 // What the program `manual` writes (document 01, section 10): the definitions of `defs.typ`, then a pass over `main.typ`.
+#![tactic(auto)]
+
 ghost use Rattle.std.specs.Prelude.{◌≡◌, length};
 ghost use Rattle.rules.specs.Calls.{pass_of};
 ghost use Rattle.rules.specs.Manual.{output_from, setting, built, manual_of};
 ghost use Rattle.manual_text.specs.Text.{main_text, Builds};
 
 // What was built: number 0 and the length of the text in the output buffer, or the refusal's number.
-#[derive(Drop)]
+#[derive(Clone, Copy)]
 pub struct Built {
     pub number: u8,
     pub len: usize,
