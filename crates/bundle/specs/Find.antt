@@ -11,7 +11,7 @@ use Rattle.std.proofs.Math.ListN.{length, drop, length-drop}
 use Rattle.std.proofs.Math.Seq.{length-take-le}
 use Rattle.rules.specs.Reader.{all, prefix, same, sees}
 use Rattle.rules.specs.Bytes.{is_path}
-use Rattle.rules.specs.Layout.{Parser, bind, ◌>>=◌, ◌>>◌, pure, times}
+use Rattle.rules.specs.Layout.{Parser, bind, ◌>>=◌, pure, times}
 use Rattle.rules.specs.Bundle.{Entry, entry, above, ascending, good_paths, paths_of, bundle_of}
 use Rattle.rules.specs.Files.{File, absent, folder, file, entry_at, is_folder_of, file_of, view}
 use Rattle.rules.proofs.Laws.Bool.{and_l, and_r, is_some}

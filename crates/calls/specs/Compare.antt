@@ -1,12 +1,12 @@
 -- An expression compared with another text while it is read.
 use Rattle.std.specs.Prelude.{◌≡◌, List, [], ◌∷◌, ◌++◌, Bool, true, false, not, ◌&&◌, eqb, length, drop, get_or}
 use Rattle.std.proofs.Math.Path.{refl}
-use Rattle.std.proofs.Common.{sym, ap, ◌∙◌, true≢false, arith, zero-add}
-use Prim.Native.Nat.{ℕ, zero, suc, ◌+◌, ◌≤◌, ◌<◌}
-use Rattle.rules.specs.Reader.{ret, if_r, ◌>>=◌, ◌>>◌, the, but, span, sees, skip, prefix, same, Turn, again, stop, loop, rounds}
+use Rattle.std.proofs.Common.{sym, ap, ◌∙◌, true≢false, arith}
+use Prim.Native.Nat.{ℕ, zero, suc, ◌≤◌, ◌<◌}
+use Rattle.rules.specs.Reader.{if_r, ◌>>=◌, ◌>>◌, the, but, span, sees, skip, prefix, same, Turn, again, stop, loop, rounds}
 use Rattle.rules.specs.Bytes.{blank, line_blank}
 use Rattle.rules.specs.Sheet.{Lookup}
-use Rattle.rules.specs.Strings.{onto, literal_from, literal, reference, plus, expression_round, expression}
+use Rattle.rules.specs.Strings.{onto, literal_from, literal, plus, expression_round, expression}
 use Rattle.scan.specs.Sets.{plain_byte}
 use Rattle.rules.proofs.Laws.Bool.{and_l, and_r, and_i, not-true, true-eqb, eqb-true}
 use Rattle.std.proofs.lemmas.Bool.{eqb-false, not-true as negated}

@@ -5,7 +5,7 @@ use Rattle.std.proofs.Common.{◌∙◌, arith}
 use Rattle.std.proofs.Math.Bool.{true}
 use Rattle.std.proofs.lemmas.Bool.{lt-leb}
 use Rattle.rules.specs.Reader.{bytes, if_r, ◌>>=◌}
-use Rattle.rules.specs.Run.{ok, Did, write}
+use Rattle.rules.specs.Run.{Did, write}
 use Rattle.rules.specs.Files.{View}
 use Rattle.rules.specs.Sheet.{Records, sheet_length, resolve}
 use Rattle.rules.specs.Expansion.{binds, writes, import_step, let_step, reference_step, call_step, raw, link, expansion_step}

@@ -6,7 +6,6 @@ use mathlib.Core.List.{List, []}
 use Rattle.std.proofs.Math.Bool.{true, false, and-true}
 use Rattle.std.proofs.lemmas.Bool.{lt-leb}
 use Rattle.std.proofs.Math.ListN.{drop, drop_of_length-le}
-use Rattle.rules.specs.Reader.{bytes}
 use Rattle.rules.specs.Run.{Emit, ok, put, and_then, unrefused, Trace, step, run, emitted, all_whole, write}
 use Rattle.rules.specs.Bytes.{join}
 use Rattle.rules.specs.Files.{View, opened, project_root}

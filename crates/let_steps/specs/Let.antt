@@ -1,5 +1,5 @@
 -- `#import` and `#let`: the lines that bind.
-use Rattle.std.specs.Prelude.{◌≡◌, refl, List, true, false, ℕ, ◌-◌, ◌≤◌, ◌<◌, length, take, drop}
+use Rattle.std.specs.Prelude.{◌≡◌, refl, List, true, false, ℕ, ◌≤◌, ◌<◌, length, take, drop}
 use Rattle.std.proofs.Common.{sym, ap, ◌∙◌, true≢false, arith}
 use Rattle.std.proofs.Math.Option.{none, some}
 use Rattle.rules.specs.Reader.{ret, ◌>>=◌, ◌>>◌, but, either, all}

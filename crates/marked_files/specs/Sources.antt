@@ -4,7 +4,7 @@ use Rattle.std.proofs.Common.{sym, ap, subst, ◌∙◌, eq-eqb, ne_eqb}
 use native.Mathlib.Omega.{arith}
 use Rattle.rules.specs.Answer.{Answer}
 use Rattle.rules.specs.Reader.{bytes, empty}
-use Rattle.rules.specs.Run.{ok, ends_in_newline}
+use Rattle.rules.specs.Run.{ends_in_newline}
 use Rattle.rules.specs.Bytes.{join}
 use Rattle.rules.specs.Files.{View, opened}
 use Rattle.rules.specs.Includes.{last_newline, fenced}

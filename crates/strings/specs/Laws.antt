@@ -1,6 +1,5 @@
 -- Literals and expressions whose texts are added to what has come.
 use Rattle.std.specs.Prelude.{◌≡◌, List, [], ◌∷◌, Bool, true, false, ℕ, ◌+◌, ◌-◌, ◌≤◌, ◌<◌, length, take, drop, get_or}
-use Rattle.std.proofs.Common.{arith}
 use Rattle.rules.specs.Reader.{the}
 use Rattle.rules.specs.Bytes.{word, line_blank, underscored}
 use Rattle.rules.specs.Strings.{escape, literal, expression}

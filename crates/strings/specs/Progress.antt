@@ -1,7 +1,7 @@
 -- How far a text has come that is put piece by piece: from a piece's lengths come those of the whole.
 use Rattle.std.specs.Prelude.{◌≡◌, refl, List, [], ◌∷◌, ◌++◌, Bool, true, false, ◌&&◌, ℕ, zero, suc, ◌+◌, ◌≤◌, ◌<◌, leb, eqb, length, drop}
 use Rattle.std.proofs.Math.Path.{sym, ap}
-use Rattle.std.proofs.Common.{◌∙◌, true≢false, arith, add-zero, zero-add, length-append, length-drop, drop-drop, length-take-le, le-leb, ne_eqb}
+use Rattle.std.proofs.Common.{◌∙◌, arith, add-zero, zero-add, length-append, length-drop, drop-drop, length-take-le, le-leb, ne_eqb}
 use Rattle.std.proofs.Math.Bool.{and-true, and-false}
 use Rattle.std.proofs.Math.Decide.{dec_le}
 use Rattle.std.proofs.lemmas.Bool.{lt-leb}

@@ -1,4 +1,3 @@
-use Rattle.std.proofs.Common.{rules}
 use native.Mathlib.Omega.{arith}
 use Rattle.binding.specs.Write.{Binds}
 use Rattle.binding.proofs.bind_from.Goals as goal

@@ -1,4 +1,3 @@
-use Rattle.std.proofs.Common.{rules}
 use Rattle.rules.specs.Sheet.{text}
 use Rattle.binding.specs.Write.{Binds, text-empty, text-full}
 use Rattle.binding.proofs.bind_text.Goals as goal

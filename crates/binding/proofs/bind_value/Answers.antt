@@ -1,4 +1,3 @@
-use Rattle.std.proofs.Common.{rules}
 use Rattle.places.specs.Mark.{has-start}
 use Rattle.binding.specs.Write.{Binds, binds-start}
 use Rattle.binding.proofs.bind_value.Goals as goal

@@ -1,4 +1,3 @@
-use Rattle.std.proofs.Common.{rules}
 use Rattle.rules.specs.Calls.{parse_definitions_of}
 use native.Mathlib.Omega.{arith}
 use Rattle.builder.specs.Cleared.{definitions-cleared}

@@ -1,4 +1,3 @@
-use Rattle.std.proofs.Common.{rules}
 use native.Mathlib.Omega.{arith}
 use Rattle.builder.specs.Cleared.{expansion-cleared}
 use Rattle.builder.proofs.preprocess_typst.Goals as goal

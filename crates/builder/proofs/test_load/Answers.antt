@@ -1,4 +1,3 @@
-use Rattle.std.proofs.Common.{rules}
 use native.Mathlib.Omega.{arith}
 use Rattle.builder.specs.Cleared.{load-cleared}
 use Rattle.builder.proofs.test_load.Goals as goal

@@ -1,6 +1,6 @@
 use Rattle.std.proofs.Common.{rules}
 use native.Mathlib.Omega.{arith}
-use Rattle.bundle.specs.Find.{Finding, find_long, finding-start, ahead, reachable, finding-same, finding-on, finding-folder, finding-absent}
+use Rattle.bundle.specs.Find.{find_long, finding-start, ahead, reachable, finding-same, finding-on, finding-folder, finding-absent}
 use Rattle.bundle.proofs.find.Goals as goal
 
 pub word-remaining-requires : goal.word-remaining-requires

@@ -1,6 +1,4 @@
-use Rattle.std.proofs.Common.{◌≡◌}
-use native.Mathlib.Omega.{arith}
-use Rattle.bundle.specs.Find.{Finding, find_long, finding-start, ahead, reachable, finding-same, finding-on, finding-folder, finding-absent}
+use Rattle.bundle.specs.Find.{Finding}
 use Rattle.bundle.proofs.find.Given as goal
 
 abbrev pub invariant-loop-remaining : goal.invariant-loop-remaining

@@ -1,4 +1,3 @@
-use Rattle.std.proofs.Common.{rules}
 use borrow.Author.Tests.{not-true, not-false}
 use Rattle.scan.specs.Laws.{start-length}
 use Rattle.bundle.specs.Open.{citation_long, citation_asked}

@@ -1,4 +1,3 @@
-use Rattle.std.proofs.Common.{rules}
 use Rattle.bundle.specs.Open.{open_refused, open_text, text-inside}
 use Rattle.bundle.proofs.open_text.Goals as goal
 

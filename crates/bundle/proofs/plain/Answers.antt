@@ -1,4 +1,3 @@
-use Rattle.std.proofs.Common.{rules}
 use Rattle.bundle.specs.Open.{plain-yes, plain-no}
 use Rattle.bundle.proofs.plain.Goals as goal
 

@@ -1,7 +1,5 @@
 use Rattle.std.proofs.Common.{rules}
-use Rattle.rules.specs.Files.{view}
-use Rattle.bundle.specs.Find.{entries_of}
-use Rattle.bundle.specs.Open.{Rising, rising-length, rising-start, rising-found, rising-on, rising-top, rising_none}
+use Rattle.bundle.specs.Open.{rising-length, rising-start, rising-found, rising-on, rising-top, rising_none}
 use Rattle.bundle.proofs.project_root.Goals as goal
 
 pub loop-n-init : goal.loop-n-init

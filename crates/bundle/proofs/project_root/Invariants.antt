@@ -1,7 +1,6 @@
-use Rattle.std.proofs.Common.{◌≡◌}
 use Rattle.rules.specs.Files.{view}
 use Rattle.bundle.specs.Find.{entries_of}
-use Rattle.bundle.specs.Open.{Rising, rising-length, rising-start, rising-found, rising-on, rising-top, rising_none}
+use Rattle.bundle.specs.Open.{Rising}
 use Rattle.bundle.proofs.project_root.Given as goal
 
 abbrev pub invariant-loop-n : goal.invariant-loop-n

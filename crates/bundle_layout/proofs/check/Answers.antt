@@ -1,7 +1,7 @@
 use Rattle.std.proofs.Common.{rules}
 use borrow.Author.Tests.{not-true, not-false}
 use Rattle.bundle_entries.specs.Whole.{check-short}
-use Rattle.bundle_layout.specs.Check.{Walking, walking_start, walking_on, walking-no, walking-end}
+use Rattle.bundle_layout.specs.Check.{walking_start, walking_on, walking-no, walking-end}
 use Rattle.bundle_layout.proofs.check.Goals as goal
 
 pub returns-then-b-lt2 : goal.returns-then-b-lt2

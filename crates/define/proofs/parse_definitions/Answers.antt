@@ -1,4 +1,3 @@
-use Rattle.std.proofs.Common.{rules}
 use lib.ListN.{length}
 use mathlib.Core.Path.{refl, sym, ◌∙◌}
 use native.Mathlib.Omega.{arith}

@@ -1,4 +1,3 @@
-use Rattle.std.proofs.Common.{rules}
 use borrow.Author.Tests.{not-true, not-false}
 use Rattle.definition_imports.specs.Import.{imports-none, imports-path}
 use Rattle.definition_imports.proofs.find_import.Goals as goal

@@ -1,4 +1,3 @@
-use Rattle.std.proofs.Common.{rules}
 use borrow.Author.Tests.{not-true, not-false}
 use Rattle.scan.specs.Laws.{start-length}
 use Rattle.definition_imports.specs.Import.{found_inside, open_four, open_absent, open_folder, open_file}

@@ -1,13 +1,8 @@
-use Rattle.std.proofs.Common.{◌≡◌}
-use mathlib.Core.Path.{◌∙◌}
 use lib.ListN.{length}
 use Prim.Native.Nat.{◌-◌}
-use native.Mathlib.Omega.{arith}
-use borrow.Author.Tests.{not-true, not-false}
 use Rattle.rules.specs.Files.{view}
 use Rattle.bundle.specs.Find.{entries_of}
-use Rattle.buffers.specs.Laws.{put-length}
-use Rattle.expansion.specs.Run.{Expanding, expanding-start, expanding-full, expanding-end, hash, expanding-refused, expanding-on}
+use Rattle.expansion.specs.Run.{Expanding}
 use Rattle.expansion.proofs.expand.Given as goal
 
 abbrev pub invariant-loop-q : goal.invariant-loop-q

@@ -1,9 +1,7 @@
 use Rattle.std.proofs.Common.{rules}
-use Prim.Native.Nat.{◌-◌}
-use lib.ListN.{length}
 use native.Mathlib.Omega.{arith}
 use Rattle.sheet.specs.Find.{item_has, item_has-body, item_holding}
-use Rattle.imported_names.proofs.Names.{BindingAll, all_start, all_end, all-next, all_told, all-bindable, all_there, all-size, all-over, all-on, meeting-at}
+use Rattle.imported_names.proofs.Names.{all_start, all_end, all-next, all_told, all-bindable, all_there, all-size, all-over, all-on, meeting-at}
 use Rattle.imported_names.proofs.bind_all.Goals as goal
 
 pub loop-i-init : goal.loop-i-init

@@ -1,11 +1,9 @@
 use Rattle.std.proofs.Common.{rules}
 use mathlib.Core.Path.{◌∙◌}
-use Prim.Native.Nat.{◌-◌}
-use lib.ListN.{length}
 use native.Mathlib.Omega.{arith}
 use borrow.Author.Tests.{not-true, not-false}
 use Rattle.imported_names.proofs.Names.{word-is}
-use Rattle.imported_names.proofs.Words.{BindingMore, more-start, more-end, more-over, more-on}
+use Rattle.imported_names.proofs.Words.{more-start, more-end, more-over, more-on}
 use Rattle.imported_names.proofs.bind_more.Goals as goal
 
 pub loop-at-init : goal.loop-at-init

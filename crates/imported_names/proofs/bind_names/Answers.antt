@@ -1,4 +1,3 @@
-use Rattle.std.proofs.Common.{rules}
 use Rattle.imported_names.proofs.Names.{names_as}
 use Rattle.imported_names.proofs.Words.{names-star, names-words}
 use Rattle.imported_names.proofs.bind_names.Goals as goal

@@ -1,10 +1,3 @@
-use Rattle.std.proofs.Common.{rules}
-use mathlib.Core.Path.{◌≡◌, ap}
-use mathlib.Core.Logic.{◌⊎◌, ⊎_elim}
-use Prim.Native.Nat.{ℕ}
-use native.Mathlib.Omega.{arith}
-use denote.Enum.Declared.{tag_of}
-use Rattle.sheet.specs.contracts.lookup.Found.{the_type}
 use Rattle.imported_names.proofs.Names.{word-bindable, word-there, word-missing, word_bound}
 use Rattle.imported_names.proofs.bind_word.Goals as goal
 

@@ -1,10 +1,4 @@
-use Rattle.std.proofs.Common.{rules}
-use mathlib.Core.Path.{◌≡◌, sym, ap}
-use mathlib.Core.Logic.{◌⊎◌, ⊎_elim}
-use Prim.Native.Nat.{ℕ}
-use native.Mathlib.Omega.{arith}
-use denote.Enum.Declared.{tag_of}
-use Rattle.sheet.specs.contracts.lookup.Found.{the_type}
+use mathlib.Core.Path.{sym}
 use lib.Seq.{length-take-le}
 use Rattle.let_steps.specs.Let.{line-there, bind-missing, bind-there}
 use Rattle.let_steps.proofs.bind_line.Goals as goal

@@ -1,4 +1,3 @@
-use Rattle.std.proofs.Common.{rules}
 use Rattle.rules.specs.Reader.{but}
 use Rattle.let_steps.specs.Let.{imports}
 use Rattle.let_steps.proofs.import_step.Goals as goal

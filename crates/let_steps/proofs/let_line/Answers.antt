@@ -1,4 +1,3 @@
-use Rattle.std.proofs.Common.{rules}
 use Rattle.rules.specs.Reader.{but}
 use Rattle.let_steps.specs.Let.{line-is}
 use Rattle.let_steps.proofs.let_line.Goals as goal

@@ -1,4 +1,3 @@
-use Rattle.std.proofs.Common.{rules}
 use Rattle.let_steps.specs.Let.{let-over, let-bound}
 use Rattle.let_steps.proofs.let_step.Goals as goal
 

@@ -1,4 +1,3 @@
-use Rattle.std.proofs.Common.{rules}
 use Rattle.link_call.specs.Link.{end_block, end_paren}
 use Rattle.link_call.proofs.call_end.Goals as goal
 

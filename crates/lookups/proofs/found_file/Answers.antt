@@ -1,4 +1,3 @@
-use Rattle.std.proofs.Common.{rules}
 use mathlib.Core.Path.{refl}
 use Rattle.lookups.specs.Files.{file_answer}
 use Rattle.lookups.proofs.found_file.Goals as goal

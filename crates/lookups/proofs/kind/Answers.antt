@@ -1,4 +1,3 @@
-use Rattle.std.proofs.Common.{rules}
 use mathlib.Core.Path.{refl}
 use Rattle.sheet.specs.Find.{found_kind}
 use Rattle.lookups.proofs.kind.Goals as goal

@@ -1,4 +1,3 @@
-use Rattle.std.proofs.Common.{rules}
 use mathlib.Core.Path.{refl}
 use Rattle.manual_text.specs.Text.{pass_builds}
 use Rattle.manual_text.proofs.pass_over.Goals as goal

@@ -1,4 +1,3 @@
-use Rattle.std.proofs.Common.{rules}
 use Rattle.marks.specs.Marks.{comment_says}
 use Rattle.marks.proofs.commented.Goals as goal
 

@@ -1,5 +1,5 @@
 use Rattle.std.proofs.Common.{rules}
-use Rattle.marks.specs.Marks.{Back, back_start, back_from, back-newline, back_on}
+use Rattle.marks.specs.Marks.{back_start, back_from, back-newline, back_on}
 use Rattle.marks.proofs.line_start.Goals as goal
 
 pub loop-i-init : goal.loop-i-init

@@ -1,5 +1,4 @@
-use Rattle.std.proofs.Common.{◌≡◌}
-use Rattle.marks.specs.Marks.{Back, back_start, back_from, back-newline, back_on}
+use Rattle.marks.specs.Marks.{Back}
 use Rattle.marks.proofs.line_start.Given as goal
 
 abbrev pub invariant-loop-i : goal.invariant-loop-i

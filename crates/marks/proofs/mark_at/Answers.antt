@@ -1,4 +1,3 @@
-use Rattle.std.proofs.Common.{rules}
 use Rattle.marks.specs.Marks.{at_include, at_source, at_none}
 use Rattle.marks.proofs.mark_at.Goals as goal
 

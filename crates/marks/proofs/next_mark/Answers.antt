@@ -1,7 +1,5 @@
 use Rattle.std.proofs.Common.{rules}
-use lib.ListN.{length}
-use Prim.Native.Nat.{◌-◌}
-use Rattle.marks.specs.Marks.{Unmarked, unmarked-start, mark-last, mark-found, mark-again}
+use Rattle.marks.specs.Marks.{unmarked-start, mark-last, mark-found, mark-again}
 use Rattle.marks.proofs.next_mark.Goals as goal
 
 pub loop-from-init : goal.loop-from-init

@@ -1,7 +1,6 @@
-use Rattle.std.proofs.Common.{◌≡◌}
 use lib.ListN.{length}
 use Prim.Native.Nat.{◌-◌}
-use Rattle.marks.specs.Marks.{Unmarked, unmarked-start, mark-last, mark-found, mark-again}
+use Rattle.marks.specs.Marks.{Unmarked}
 use Rattle.marks.proofs.next_mark.Given as goal
 
 abbrev pub invariant-loop-from : goal.invariant-loop-from

@@ -1,12 +1,9 @@
-use Rattle.std.proofs.Common.{◌≡◌}
-use native.Mathlib.Omega.{arith}
 use Prim.Native.Nat.{◌-◌}
 use lib.ListN.{length}
 use Rattle.rules.specs.Sheet.{Records}
 use Rattle.sheet.specs.Order.{underscored_if}
-use Rattle.sheet.specs.Find.{item_holding, item_has, item_rest}
 use Rattle.places.specs.Mark.{Marked}
-use Rattle.places.specs.Place.{Placing, standing, standing-at, place_end, place-below, place_same, place-on}
+use Rattle.places.specs.Place.{Placing}
 use Rattle.places.proofs.find_place.Given as goal
 
 abbrev pub invariant-loop-i : goal.invariant-loop-i

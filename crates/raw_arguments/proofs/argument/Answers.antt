@@ -1,4 +1,3 @@
-use Rattle.std.proofs.Common.{rules}
 use Rattle.raw_arguments.specs.Args.{sets-language, sets_block, sets-nothing}
 use Rattle.raw_arguments.proofs.argument.Goals as goal
 

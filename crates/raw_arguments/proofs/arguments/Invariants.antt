@@ -1,17 +1,14 @@
 use Rattle.std.proofs.Common.{◌≡◌}
-use mathlib.Core.Path.{◌≡◌, refl}
-use mathlib.Core.List.{List, []}
+use mathlib.Core.Path.{◌≡◌}
+use mathlib.Core.List.{List}
 use mathlib.Core.Bool.{false}
-use mathlib.Core.Option.{none}
 use Prim.Native.Nat.{ℕ, ◌-◌}
-use native.Mathlib.Omega.{arith}
 use lib.ListN.{length}
-use borrow.Author.Tests.{not-false}
 use Rattle.rules.specs.Reader.{either}
 use Rattle.rules.specs.Bytes.{blank}
 use Rattle.rules.specs.Sheet.{Lookup}
-use Rattle.scan.specs.Laws.{Spanning, spanning-start}
-use Rattle.raw_arguments.specs.Args.{ArgsAt, args_start, args_end, args_language, args_block, args_nothing, args_stalled, gap_on}
+use Rattle.scan.specs.Laws.{Spanning}
+use Rattle.raw_arguments.specs.Args.{ArgsAt}
 use Rattle.raw_arguments.proofs.arguments.Given as goal
 
 abbrev pub invariant-loop-start : goal.invariant-loop-start

@@ -1,4 +1,3 @@
-use Rattle.std.proofs.Common.{rules}
 use native.Mathlib.Omega.{arith}
 use Rattle.raw_arguments.specs.Args.{language-literal, language-reference}
 use Rattle.raw_arguments.proofs.language.Goals as goal

@@ -3,7 +3,6 @@ use mathlib.Core.Path.{ap, ◌∙◌}
 use native.Mathlib.Omega.{arith}
 use lib.ListN.{length}
 use lib.Seq.{length-sets}
-use Rattle.buffers.specs.Put.{after}
 use Rattle.buffers.specs.Laws.{put-length, put-writer}
 use Rattle.raw_call.specs.Raw.{block_over, block_put, block_room, content-end}
 use Rattle.raw_call.proofs.put_block.Goals as goal

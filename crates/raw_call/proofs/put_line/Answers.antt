@@ -2,7 +2,6 @@ use Rattle.std.proofs.Common.{rules}
 use mathlib.Core.Path.{◌∙◌}
 use mathlib.Core.List.{[]}
 use native.Mathlib.Omega.{arith}
-use Rattle.buffers.specs.Put.{after}
 use Rattle.buffers.specs.Laws.{put-length, put-writer}
 use Rattle.raw_call.specs.Raw.{line-over, line-put}
 use Rattle.raw_call.proofs.put_line.Goals as goal

@@ -1,4 +1,3 @@
-use Rattle.std.proofs.Common.{rules}
 use Rattle.raw_call.specs.Raw.{raw_block, raw-line}
 use Rattle.raw_call.proofs.put_raw.Goals as goal
 

@@ -1,4 +1,3 @@
-use Rattle.std.proofs.Common.{rules}
 use native.Mathlib.Omega.{arith}
 use Rattle.buffers.specs.Laws.{put-length}
 use Rattle.raw_content.specs.Content.{inside-expression, inside_found, inside-file, put-expression, put-found, put-file}

@@ -1,4 +1,3 @@
-use Rattle.std.proofs.Common.{rules}
 use Rattle.record_bytes.specs.Opening.{map-plain, map-named}
 use Rattle.record_bytes.proofs.map_of.Goals as goal
 

@@ -1,4 +1,3 @@
-use Rattle.std.proofs.Common.{rules}
 use native.Mathlib.Omega.{arith}
 use Rattle.record_bytes.specs.Opening.{wide_ge, open_plain, open_numbered}
 use Rattle.record_bytes.proofs.opening_len.Goals as goal

@@ -1,10 +1,7 @@
 use Rattle.std.proofs.Common.{rules}
-use mathlib.Core.Path.{◌≡◌, refl, sym, ◌∙◌}
-use Prim.Native.Nat.{◌≤◌, ◌-◌, ◌+◌}
+use mathlib.Core.Path.{refl, sym, ◌∙◌}
 use native.Mathlib.Nat.{add-zero}
-use lib.ListN.{length, drop, length-set}
-use lib.Seq.{sets}
-use Rattle.sheet.specs.Order.{underscored_if}
+use lib.ListN.{length-set}
 use Rattle.record_bytes.specs.Opening.{name-step, name-end}
 use Rattle.record_bytes.proofs.put_name.Goals as goal
 

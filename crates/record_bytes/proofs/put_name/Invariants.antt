@@ -1,11 +1,9 @@
 use Rattle.std.proofs.Common.{◌≡◌}
-use mathlib.Core.Path.{◌≡◌, refl, sym, ◌∙◌}
+use mathlib.Core.Path.{◌≡◌}
 use Prim.Native.Nat.{◌≤◌, ◌-◌, ◌+◌}
-use native.Mathlib.Nat.{add-zero}
-use lib.ListN.{length, drop, length-set}
+use lib.ListN.{length, drop}
 use lib.Seq.{sets}
 use Rattle.sheet.specs.Order.{underscored_if}
-use Rattle.record_bytes.specs.Opening.{name-step, name-end}
 use Rattle.record_bytes.proofs.put_name.Given as goal
 
 abbrev pub invariant-loop-i : goal.invariant-loop-i

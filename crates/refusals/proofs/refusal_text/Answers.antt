@@ -1,4 +1,3 @@
-use Rattle.std.proofs.Common.{rules}
 use Rattle.refusals.specs.Text.{leaves}
 use Rattle.refusals.proofs.refusal_text.Goals as goal
 

@@ -14,7 +14,7 @@ use Rattle.rules.specs.Files.{View, entry_at, is_folder_of, view, fetch}
 use Rattle.rules.specs.Sheet.{Value, Records, encode, sheet_length, sheet_of, resolve, text_of}
 use Rattle.rules.specs.Includes.{includes}
 use Rattle.rules.specs.Expansion.{expansion}
-use Rattle.rules.specs.Pass.{middle_text, expanded, passed, closed}
+use Rattle.rules.specs.Pass.{middle_text, expanded, passed}
 use Rattle.rules.specs.Calls.{Setting, limit, zeros, padded, Holds, Found, found_answer, find_file_result, find_file_of, output_answer, looked_answer, resolve_result, resolve_of, resolve_includes_result, resolve_includes_of, test_load_result, test_load_of, expanded_answer, preprocess_typst_result, preprocess_typst_of, defined_answer, parse_definitions_result, parse_definitions_of, passed_answer, closed_of, pass_result, pass_of}
 use Rattle.rules.specs.Load.{load, list_of}
 use Rattle.rules.specs.Parts.{sheet_left}

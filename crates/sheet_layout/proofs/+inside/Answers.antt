@@ -1,8 +1,7 @@
 use Rattle.std.proofs.Common.{rules}
-use Prim.Native.Nat.{ℕ, ◌<◌}
 use mathlib.Core.Path.{refl}
 use native.Mathlib.Omega.{arith}
-use Rattle.sheet_layout.specs.Check.{Running, body_flat, body-none, running-start, running-end, running-broken, running_bad, running-on, entered, within}
+use Rattle.sheet_layout.specs.Check.{body_flat, body-none, running-start, running-end, running-broken, running_bad, running-on, entered, within}
 use Rattle.sheet_layout.proofs.+inside.Goals as goal
 
 pub returns-then-kind-ne3 : goal.returns-then-kind-ne3

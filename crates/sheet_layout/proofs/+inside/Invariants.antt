@@ -1,8 +1,4 @@
-use Rattle.std.proofs.Common.{◌≡◌}
-use Prim.Native.Nat.{ℕ, ◌<◌}
-use mathlib.Core.Path.{refl}
-use native.Mathlib.Omega.{arith}
-use Rattle.sheet_layout.specs.Check.{Running, body_flat, body-none, running-start, running-end, running-broken, running_bad, running-on, entered, within}
+use Rattle.sheet_layout.specs.Check.{Running}
 use Rattle.sheet_layout.proofs.+inside.Given as goal
 
 abbrev pub decreases-inside : goal.decreases-inside

@@ -1,4 +1,3 @@
-use Rattle.std.proofs.Common.{rules}
 use Rattle.sheet_layout.proofs.all_of.Goals as goal
 
 pub returns-in-Word : goal.returns-in-Word

@@ -1,9 +1,7 @@
 use Rattle.std.proofs.Common.{rules}
 use mathlib.Core.Path.{refl}
 use native.Mathlib.Omega.{arith}
-use Prim.Native.Nat.{◌-◌}
-use lib.ListN.{length}
-use Rattle.sheet_layout.specs.Check.{Checking, check-long, checking-start, checking-end, checking-broken, checking_bad, checking-on, checking-past, entered, within}
+use Rattle.sheet_layout.specs.Check.{check-long, checking-start, checking-end, checking-broken, checking_bad, checking-on, checking-past, entered, within}
 use Rattle.sheet_layout.proofs.check.Goals as goal
 
 pub returns-then-s-gt65535 : goal.returns-then-s-gt65535

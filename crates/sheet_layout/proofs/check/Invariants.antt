@@ -1,9 +1,6 @@
-use Rattle.std.proofs.Common.{◌≡◌}
-use mathlib.Core.Path.{refl}
-use native.Mathlib.Omega.{arith}
 use Prim.Native.Nat.{◌-◌}
 use lib.ListN.{length}
-use Rattle.sheet_layout.specs.Check.{Checking, check-long, checking-start, checking-end, checking-broken, checking_bad, checking-on, checking-past, entered, within}
+use Rattle.sheet_layout.specs.Check.{Checking}
 use Rattle.sheet_layout.proofs.check.Given as goal
 
 abbrev pub invariant-loop-i : goal.invariant-loop-i

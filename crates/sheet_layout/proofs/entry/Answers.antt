@@ -1,4 +1,3 @@
-use Rattle.std.proofs.Common.{rules}
 use mathlib.Core.Path.{sym, ◌∙◌}
 use Rattle.sheet_layout.specs.Check.{in-sheet, enters-broken, enters-in, enters-not}
 use Rattle.sheet_layout.proofs.entry.Goals as goal

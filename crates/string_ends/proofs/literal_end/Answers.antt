@@ -1,7 +1,5 @@
 use Rattle.std.proofs.Common.{rules}
-use Prim.Native.Nat.{◌-◌}
-use lib.ListN.{length}
-use Rattle.string_ends.specs.Text.{LiteralEnds, literal-begun, makes-end, makes-quote, makes-last, literal-on}
+use Rattle.string_ends.specs.Text.{literal-begun, makes-end, makes-quote, makes-last, literal-on}
 use Rattle.string_ends.proofs.literal_end.Goals as goal
 
 pub loop-i-init : goal.loop-i-init

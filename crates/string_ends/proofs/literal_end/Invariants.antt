@@ -1,7 +1,6 @@
-use Rattle.std.proofs.Common.{◌≡◌}
 use Prim.Native.Nat.{◌-◌}
 use lib.ListN.{length}
-use Rattle.string_ends.specs.Text.{LiteralEnds, literal-begun, makes-end, makes-quote, makes-last, literal-on}
+use Rattle.string_ends.specs.Text.{LiteralEnds}
 use Rattle.string_ends.proofs.literal_end.Given as goal
 
 abbrev pub invariant-loop-i : goal.invariant-loop-i

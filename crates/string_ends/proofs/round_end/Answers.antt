@@ -1,4 +1,3 @@
-use Rattle.std.proofs.Common.{rules}
 use native.Mathlib.Omega.{arith}
 use lib.ListN.{length-take, length-drop}
 use Rattle.string_ends.specs.Text.{literal-inside, round-at-literal, round-at-reference, round-at-nothing}

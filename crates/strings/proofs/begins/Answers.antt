@@ -1,4 +1,3 @@
-use Rattle.std.proofs.Common.{rules}
 use Rattle.strings.specs.Read.{beginning}
 use mathlib.Core.Path.{refl}
 use Rattle.strings.proofs.begins.Goals as goal

@@ -1,4 +1,3 @@
-use Rattle.std.proofs.Common.{rules}
 use Rattle.strings.specs.Laws.{gives-run}
 use Rattle.strings.proofs.find_text.Goals as goal
 

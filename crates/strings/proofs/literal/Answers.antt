@@ -1,4 +1,3 @@
-use Rattle.std.proofs.Common.{rules}
 use Rattle.buffers.specs.Laws.{put-length}
 use Rattle.strings.specs.Laws.{began, wrote}
 use Rattle.strings.proofs.literal.Goals as goal

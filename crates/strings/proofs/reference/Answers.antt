@@ -1,4 +1,3 @@
-use Rattle.std.proofs.Common.{rules}
 use native.Mathlib.Omega.{arith}
 use Rattle.buffers.specs.Laws.{put-length}
 use Rattle.strings.proofs.reference.Goals as goal

@@ -1,6 +1,6 @@
 use Rattle.std.proofs.Common.{rules}
 use Rattle.std.proofs.Common.{◌/◌, ◌%◌, ap, mod-lt, rules}
-use Rattle.rules.specs.Load.{next, draw}
+use Rattle.rules.specs.Load.{draw}
 use Rattle.test_load.proofs.draw.Goals as goal
 
 pub returns : goal.returns

@@ -1,7 +1,6 @@
 use Rattle.std.proofs.Common.{rules}
-use Rattle.std.proofs.Common.{ℕ, ◌+◌, ◌^◌, ◌<◌, length, sym, arith, rules}
-use Rattle.test_load.specs.Load.{cut}
-use Rattle.test_load.specs.Laws.{Loading, loading-starts, loading-goes, loading-ends, loading-writer, loading-size}
+use Rattle.std.proofs.Common.{rules}
+use Rattle.test_load.specs.Laws.{loading-starts, loading-goes, loading-ends, loading-writer, loading-size}
 use Rattle.test_load.proofs.put_load.Goals as goal
 
 pub loop-left-init : goal.loop-left-init

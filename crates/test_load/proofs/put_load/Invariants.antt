@@ -1,7 +1,5 @@
-use Rattle.std.proofs.Common.{◌≡◌}
-use Rattle.std.proofs.Common.{ℕ, ◌+◌, ◌^◌, ◌<◌, length, sym, arith, rules}
 use Rattle.test_load.specs.Load.{cut}
-use Rattle.test_load.specs.Laws.{Loading, loading-starts, loading-goes, loading-ends, loading-writer, loading-size}
+use Rattle.test_load.specs.Laws.{Loading}
 use Rattle.test_load.proofs.put_load.Given as goal
 
 abbrev pub invariant-loop-left : goal.invariant-loop-left

@@ -1,6 +1,5 @@
-use Rattle.std.proofs.Common.{rules}
-use Rattle.std.proofs.Common.{refl, rules}
-use Rattle.rules.specs.Load.{load, document_pieces, definition_pieces, list_of}
+use Rattle.std.proofs.Common.{refl}
+use Rattle.rules.specs.Load.{document_pieces, definition_pieces, list_of}
 use Rattle.test_load.specs.Load.{cut, within}
 use Rattle.test_load.proofs.put_load_of.Goals as goal
 

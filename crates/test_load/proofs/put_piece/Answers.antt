@@ -1,5 +1,4 @@
-use Rattle.std.proofs.Common.{rules}
-use Rattle.std.proofs.Common.{◌+◌, ◌<◌, length, arith, rules}
+use Rattle.std.proofs.Common.{arith}
 use Rattle.test_load.specs.Laws.{within-at, piece-put}
 use Rattle.test_load.proofs.put_piece.Goals as goal
 

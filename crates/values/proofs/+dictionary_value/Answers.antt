@@ -1,13 +1,10 @@
 use Rattle.std.proofs.Common.{rules}
-use Prim.Native.Nat.{ℕ, ◌<◌}
 use mathlib.Core.Path.{sym, ◌∙◌}
-use Prim.Native.Nat.{◌+◌, ◌-◌, ◌*◌}
 use native.Mathlib.Omega.{arith}
-use lib.ListN.{length}
 use lib.Seq.{length-take-le}
 use borrow.Author.Tests.{not-true, not-false}
 use Rattle.values.specs.Values.{slot_le, room-text}
-use Rattle.values.specs.Dictionary.{value-quote, value_open, value_none, value-name, value-other, dictionary_seven, Entering, entering-start, entering-two, entering-behind, entering_close, after-size, entry-bindable, entry-mark, entry-end, entry-source, entering-no, bound-size, entering-over, entering-on, entering-moves}
+use Rattle.values.specs.Dictionary.{value-quote, value_open, value_none, value-name, value-other, dictionary_seven, entering-start, entering-two, entering-behind, entering_close, after-size, entry-bindable, entry-mark, entry-end, entry-source, entering-no, bound-size, entering-over, entering-on, entering-moves}
 use Rattle.values.proofs.+dictionary_value.Goals as goal
 
 pub dictionary-returns-then-levels-eq0 : goal.dictionary-returns-then-levels-eq0

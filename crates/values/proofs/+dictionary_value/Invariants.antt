@@ -1,13 +1,6 @@
-use Rattle.std.proofs.Common.{◌≡◌}
-use Prim.Native.Nat.{ℕ, ◌<◌}
-use mathlib.Core.Path.{sym, ◌∙◌}
 use Prim.Native.Nat.{◌+◌, ◌-◌, ◌*◌}
-use native.Mathlib.Omega.{arith}
 use lib.ListN.{length}
-use lib.Seq.{length-take-le}
-use borrow.Author.Tests.{not-true, not-false}
-use Rattle.values.specs.Values.{slot_le, room-text}
-use Rattle.values.specs.Dictionary.{value-quote, value_open, value_none, value-name, value-other, dictionary_seven, Entering, entering-start, entering-two, entering-behind, entering_close, after-size, entry-bindable, entry-mark, entry-end, entry-source, entering-no, bound-size, entering-over, entering-on, entering-moves}
+use Rattle.values.specs.Dictionary.{Entering}
 use Rattle.values.proofs.+dictionary_value.Given as goal
 
 abbrev pub decreases-dictionary : goal.decreases-dictionary

@@ -1,4 +1,3 @@
-use Rattle.std.proofs.Common.{rules}
 use mathlib.Core.Path.{refl, sym}
 use Rattle.binding.specs.Write.{dictionary-source}
 use mathlib.Core.Path.{subst}

@@ -1,4 +1,3 @@
-use Rattle.std.proofs.Common.{rules}
 use mathlib.Core.Path.{refl}
 use Rattle.binding.specs.Write.{none-source}
 use Rattle.values.proofs.none_value.Goals as goal

@@ -1,4 +1,3 @@
-use Rattle.std.proofs.Common.{rules}
 use mathlib.Core.Path.{◌∙◌}
 use Rattle.scan.specs.Laws.{start-length}
 use Rattle.bundle.specs.Find.{near_of}

@@ -1,7 +1,5 @@
 use Rattle.std.proofs.Common.{rules}
-use Prim.Native.Nat.{◌-◌}
-use lib.ListN.{length}
-use Rattle.bundle_layout.specs.Order.{Agreeing, agreeing-start, agreeing-on, agreeing-short, agreeing-end, agreeing_differ}
+use Rattle.bundle_layout.specs.Order.{agreeing-start, agreeing-on, agreeing-short, agreeing-end, agreeing_differ}
 use Rattle.bundle_layout.proofs.order.agree.Goals as goal
 
 pub loop-i-init : goal.loop-i-init

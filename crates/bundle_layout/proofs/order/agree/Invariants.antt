@@ -1,7 +1,6 @@
-use Rattle.std.proofs.Common.{◌≡◌}
 use Prim.Native.Nat.{◌-◌}
 use lib.ListN.{length}
-use Rattle.bundle_layout.specs.Order.{Agreeing, agreeing-start, agreeing-on, agreeing-short, agreeing-end, agreeing_differ}
+use Rattle.bundle_layout.specs.Order.{Agreeing}
 use Rattle.bundle_layout.proofs.order.agree.Given as goal
 
 abbrev pub invariant-loop-i : goal.invariant-loop-i

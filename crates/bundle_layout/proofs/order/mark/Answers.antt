@@ -1,6 +1,5 @@
 use Rattle.std.proofs.Common.{rules}
-use Prim.Native.Nat.{◌-◌}
-use Rattle.bundle_layout.specs.Order.{Clearing, clearing-start, clearing-on, clearing-end}
+use Rattle.bundle_layout.specs.Order.{clearing-start, clearing-on, clearing-end}
 use Rattle.bundle_layout.proofs.order.mark.Goals as goal
 
 pub loop-i-init : goal.loop-i-init

@@ -1,6 +1,5 @@
-use Rattle.std.proofs.Common.{◌≡◌}
 use Prim.Native.Nat.{◌-◌}
-use Rattle.bundle_layout.specs.Order.{Clearing, clearing-start, clearing-on, clearing-end}
+use Rattle.bundle_layout.specs.Order.{Clearing}
 use Rattle.bundle_layout.proofs.order.mark.Given as goal
 
 abbrev pub invariant-loop-i : goal.invariant-loop-i

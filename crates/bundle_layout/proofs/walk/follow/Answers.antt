@@ -1,4 +1,3 @@
-use Rattle.std.proofs.Common.{rules}
 use borrow.Author.Tests.{not-true, not-false}
 use native.Mathlib.Omega.{arith}
 use Rattle.scan.specs.Laws.{start-length}

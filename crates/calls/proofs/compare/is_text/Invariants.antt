@@ -1,16 +1,12 @@
 use Rattle.std.proofs.Common.{◌≡◌}
-use mathlib.Core.Path.{◌≡◌, refl, sym, ◌∙◌}
+use mathlib.Core.Path.{◌≡◌}
 use Prim.Native.Nat.{◌≤◌, ◌-◌}
-use native.Mathlib.Omega.{arith}
-use borrow.Author.Tests.{not-true, not-false}
 use lib.ListN.{length}
 use Rattle.rules.specs.Sheet.{resolve}
 use Rattle.sheet.specs.Find.{IsSheet}
 use Rattle.buffers.specs.Put.{Writer}
-use Rattle.buffers.specs.Laws.{put-length, put-writer}
-use Rattle.scan.specs.Laws.{sees-the}
-use Rattle.strings.specs.Laws.{ExpressionAt, expression-start, term_inside, expression-none, expression-last, expression-again}
-use Rattle.calls.specs.Compare.{start, compared, differs}
+use Rattle.strings.specs.Laws.{ExpressionAt}
+use Rattle.calls.specs.Compare.{start}
 use Rattle.calls.proofs.compare.is_text.Given as goal
 
 abbrev pub invariant-loop-z : goal.invariant-loop-z

@@ -1,4 +1,3 @@
-use Rattle.std.proofs.Common.{rules}
 use Rattle.calls.specs.Measure.{measures-part}
 use Rattle.calls.proofs.measure.part.Goals as goal
 

@@ -1,19 +1,12 @@
 use Rattle.std.proofs.Common.{◌≡◌}
-use Prim.Native.Nat.{ℕ, ◌<◌}
-use mathlib.Core.Path.{◌≡◌, refl, sym, ◌∙◌}
+use mathlib.Core.Path.{◌≡◌}
 use Prim.Native.Nat.{◌+◌, ◌-◌, ◌*◌}
-use native.Mathlib.Omega.{arith}
-use borrow.Author.Tests.{not-true, not-false}
 use lib.ListN.{length}
-use lib.Seq.{length-take-le}
-use Rattle.rules.specs.Answer.{accepted}
 use Rattle.rules.specs.Files.{view}
 use Rattle.rules.specs.Definitions.{definition_step}
 use Rattle.rules.specs.Imports.{imported, imported_sheet}
 use Rattle.bundle.specs.Find.{entries_of}
-use Rattle.scan.specs.Laws.{starts_as}
-use Rattle.definition_imports.specs.Import.{file-there}
-use Rattle.definitions.specs.File.{Parsing, parsing-start, parsing-keeps, parsing-on, parsed-no, parsed, steps_as, room-value, import-nothing, import-refused, import-stopped, import-bound, save_two, save_room, lent-long, lent-saved, lent-swap}
+use Rattle.definitions.specs.File.{Parsing}
 use Rattle.definitions.proofs.files.+parse_step.Given as goal
 
 abbrev pub decreases-parse : goal.decreases-parse

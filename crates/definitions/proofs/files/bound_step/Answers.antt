@@ -1,4 +1,3 @@
-use Rattle.std.proofs.Common.{rules}
 use Rattle.definitions.specs.File.{over-step, length-step}
 use Rattle.definitions.proofs.files.bound_step.Goals as goal
 

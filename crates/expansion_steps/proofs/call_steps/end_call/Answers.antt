@@ -1,4 +1,3 @@
-use Rattle.std.proofs.Common.{rules}
 use Rattle.expansion_steps.specs.Call.{ends-back, ends-refused, ends-output}
 use Rattle.expansion_steps.proofs.call_steps.end_call.Goals as goal
 

@@ -1,4 +1,3 @@
-use Rattle.std.proofs.Common.{rules}
 use Rattle.expansion_steps.specs.Call.{space-writer, shows}
 use Rattle.expansion_steps.proofs.call_steps.show.Goals as goal
 

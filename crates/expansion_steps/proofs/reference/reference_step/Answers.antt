@@ -1,4 +1,3 @@
-use Rattle.std.proofs.Common.{rules}
 use borrow.Author.Tests.{not-true, not-false}
 use Rattle.buffers.specs.Laws.{put-writer}
 use mathlib.Core.Path.{refl}

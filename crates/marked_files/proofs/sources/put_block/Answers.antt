@@ -1,4 +1,3 @@
-use Rattle.std.proofs.Common.{rules}
 use native.Mathlib.Omega.{arith}
 use Rattle.buffers.specs.Laws.{put-writer, put-length}
 use Rattle.marked_files.specs.Sources.{block_put}

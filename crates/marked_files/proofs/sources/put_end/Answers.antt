@@ -1,4 +1,3 @@
-use Rattle.std.proofs.Common.{rules}
 use Rattle.marked_files.specs.Sources.{same-put, close_empty, close_other, close_newline}
 use Rattle.marked_files.proofs.sources.put_end.Goals as goal
 

@@ -1,4 +1,3 @@
-use Rattle.std.proofs.Common.{rules}
 use Rattle.marks.specs.Ahead.{knows_hit, knows-new}
 use Rattle.marks.proofs.ahead.next.Goals as goal
 

@@ -1,4 +1,3 @@
-use Rattle.std.proofs.Common.{rules}
 use Rattle.scan.specs.Sets.{not_byte}
 use Rattle.marks.specs.Ahead.{knows-nothing}
 use Rattle.marks.proofs.ahead.nothing.Goals as goal

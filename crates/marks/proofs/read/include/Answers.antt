@@ -1,4 +1,3 @@
-use Rattle.std.proofs.Common.{rules}
 use mathlib.Core.Path.{ap, ◌∙◌}
 use borrow.Author.Tests.{not-true, not-false}
 use Rattle.marks.specs.Read.{same_read, copied_read, include_none, include_some}

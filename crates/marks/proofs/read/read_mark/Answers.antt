@@ -1,4 +1,3 @@
-use Rattle.std.proofs.Common.{rules}
 use native.Mathlib.Omega.{arith}
 use Rattle.marks.specs.Marks.{mark-stands, mark-behind}
 use Rattle.marks.specs.Read.{same_read, read-commented, read_taken}

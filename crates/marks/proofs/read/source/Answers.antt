@@ -1,4 +1,3 @@
-use Rattle.std.proofs.Common.{rules}
 use Rattle.marks.specs.Read.{source-read}
 use Rattle.marks.proofs.read.source.Goals as goal
 

@@ -1,4 +1,3 @@
-use Rattle.std.proofs.Common.{rules}
 use native.Mathlib.Omega.{arith}
 use Rattle.raw_arguments.specs.Lang.{inside-reference, looks_same, looks_up}
 use Rattle.raw_arguments.proofs.language_text.look_up.Goals as goal

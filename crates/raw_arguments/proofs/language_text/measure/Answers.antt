@@ -1,4 +1,3 @@
-use Rattle.std.proofs.Common.{rules}
 use mathlib.Core.Path.{◌∙◌}
 use native.Mathlib.Omega.{arith}
 use Rattle.raw_arguments.specs.Lang.{inside-literal, inside-reference, inside_found, measures-literal, measures-reference, measures-found}

@@ -1,4 +1,3 @@
-use Rattle.std.proofs.Common.{rules}
 use native.Mathlib.Omega.{arith}
 use Rattle.buffers.specs.Laws.{put-length}
 use Rattle.raw_arguments.specs.Lang.{inside-literal, inside-reference, inside_found, put-literal, put-reference, put-found}

@@ -1,4 +1,3 @@
-use Rattle.std.proofs.Common.{rules}
 use Rattle.rules.specs.Reader.{the}
 use Rattle.rules.specs.Strings.{escape}
 use Rattle.buffers.specs.Laws.{put-length}

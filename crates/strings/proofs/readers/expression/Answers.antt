@@ -1,15 +1,10 @@
 use Rattle.std.proofs.Common.{rules}
-use mathlib.Core.Path.{◌≡◌, refl, ◌∙◌}
-use Prim.Native.Nat.{◌≤◌, ◌+◌, ◌-◌}
+use mathlib.Core.Path.{refl, ◌∙◌}
 use native.Mathlib.Omega.{arith}
 use borrow.Author.Tests.{not-true, not-false}
-use lib.ListN.{length}
-use Rattle.rules.specs.Sheet.{resolve}
-use Rattle.sheet.specs.Find.{IsSheet}
-use Rattle.buffers.specs.Put.{Writer}
 use Rattle.buffers.specs.Laws.{put-length, put-writer}
 use Rattle.scan.specs.Laws.{sees-the}
-use Rattle.strings.specs.Laws.{ExpressionAt, expression-start, term_inside, expression-none, expression-last, expression-again}
+use Rattle.strings.specs.Laws.{expression-start, term_inside, expression-none, expression-last, expression-again}
 use Rattle.strings.proofs.readers.expression.Goals as goal
 
 pub loop-z-init : goal.loop-z-init

@@ -1,9 +1,7 @@
 use Rattle.std.proofs.Common.{rules}
 use mathlib.Core.Path.{◌∙◌}
-use Prim.Native.Nat.{◌-◌}
-use lib.ListN.{length}
 use Rattle.buffers.specs.Laws.{put-writer, put-length}
-use Rattle.strings.specs.Laws.{LiteralAt, literal-start, literal-end, literal-quote, literal-last, literal-escape}
+use Rattle.strings.specs.Laws.{literal-start, literal-end, literal-quote, literal-last, literal-escape}
 use Rattle.strings.proofs.readers.literal.Goals as goal
 
 pub loop-z-init : goal.loop-z-init

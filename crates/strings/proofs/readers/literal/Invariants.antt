@@ -1,9 +1,6 @@
-use Rattle.std.proofs.Common.{◌≡◌}
-use mathlib.Core.Path.{◌∙◌}
 use Prim.Native.Nat.{◌-◌}
 use lib.ListN.{length}
-use Rattle.buffers.specs.Laws.{put-writer, put-length}
-use Rattle.strings.specs.Laws.{LiteralAt, literal-start, literal-end, literal-quote, literal-last, literal-escape}
+use Rattle.strings.specs.Laws.{LiteralAt}
 use Rattle.strings.proofs.readers.literal.Given as goal
 
 abbrev pub invariant-loop-z : goal.invariant-loop-z
