@@ -1,5 +1,5 @@
-/* Wagtailfen: a text builder that is proved, byte for byte. Link target/staticlib/libwagtailfen.a, which
- * `rt staticlib wagtailfen` makes. Written for x86-64.
+/* Wagtailfen: a text builder that is proved, byte for byte. Link crates/wagtailfen/out/libwagtailfen.a, which
+ * `rt lib` in crates/wagtailfen makes. Built for x86-64-v2.
  *
  * A slice is a pointer and then a length. The pointer of an empty slice is not null either: any aligned address that is
  * not null will do. A buffer that is written (out, left, middle, work) overlaps no other slice of the call.
