@@ -4,7 +4,7 @@
 usage: python3 tools/respell.py [--list]      at the top of the repository, once, right after port.py
 
 Words are in snake case: `passOf` becomes `pass_of`. A dash stays where it joins two names (`length-sets`); a plain word is
-added with `_` (`told_apart`). Types, modules and facts keep their capitals. Only names that a file of some specs/ declares
+added with `_` (`closed_exactly`). Types, modules and facts keep their capitals. Only names that a file of some specs/ declares
 are turned, in .antt and .rt files and in must-fail edits; the names of functions, of generated goals and of the library stay.
 With --list it prints each name with its new spelling and writes nothing.
 """

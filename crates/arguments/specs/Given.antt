@@ -4,13 +4,13 @@ use Rattle.std.proofs.Math.Path.{sym}
 use Rattle.std.proofs.Math.Option.{Option, none, some}
 use Rattle.std.proofs.Common.{arith}
 use borrow.Author.Tests.{le-leb, lt-leb}
-use Rattle.rules.specs.Answer.{Answer, refused, accepted, ◌>>=◌, ◌>>◌, check, or_refuse}
+use Rattle.rules.specs.Answer.{Answer, refused, accepted, ◌>>=◌, ◌>>◌, check, or_refuse, is_some}
 use Rattle.rules.specs.Reader.{all}
 use Rattle.rules.specs.Bytes.{ascii, is_folder}
 use Rattle.rules.specs.Bundle.{Entry, bundle_of}
 use Rattle.rules.specs.Sheet.{Records, sheet_length, sheet_of}
 use Rattle.rules.specs.Calls.{limit}
-use Rattle.rules.proofs.Laws.Bool.{is_some, true-some, false-some}
+use Rattle.rules.proofs.Laws.Bool.{true-some, false-some}
 use Rattle.bundle.specs.Find.{entries_of, entries-some}
 use Rattle.sheet.specs.Use.{Checked, known}
 

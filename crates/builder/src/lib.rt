@@ -131,7 +131,7 @@ pub fn pass(
     out: &mut [u8],
     left: &mut [u8],
 ) -> Passed
-    ensures { pass_of (record { bundle = bundle.entry.now; folder = folder.now; middle_len = length middle.old; out_len = length out.old; left_len = length left.old }) sheet.now text.now ≡ record { number = result.number; len = result.len; sheet_len = result.sheet; closed = result.closed; middle = middle.new; out = out.new; left = left.new } }
+    ensures { pass_of (record { bundle = bundle.now; folder = folder.now; middle_len = length middle.old; out_len = length out.old; left_len = length left.old }) sheet.now text.now ≡ record { number = result.number; len = result.len; sheet_len = result.sheet; closed = result.closed; middle = middle.new; out = out.new; left = left.new } }
 {
     let p = runs::pass_call::pass(bundle, folder, text, sheet, middle, out, left);
     buffers::clear_from(middle, 0);

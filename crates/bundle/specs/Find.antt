@@ -14,7 +14,8 @@ use Rattle.rules.specs.Bytes.{is_path}
 use Rattle.rules.specs.Layout.{Parser, bind, ◌>>=◌, pure, times}
 use Rattle.rules.specs.Bundle.{Entry, entry, above, ascending, good_paths, paths_of, bundle_of}
 use Rattle.rules.specs.Files.{File, absent, folder, file, entry_at, is_folder_of, file_of, view}
-use Rattle.rules.proofs.Laws.Bool.{and_l, and_r, is_some}
+use Rattle.rules.specs.Answer.{is_some}
+use Rattle.rules.proofs.Laws.Bool.{and_l, and_r}
 use Rattle.rules.proofs.Laws.Found.{some_same}
 use Rattle.scan.specs.Sets.{Starts, Sees, byte_is}
 use Rattle.bundle_entries.specs.Entries.{entry_of, head_answer, HeadAt}

@@ -3,7 +3,7 @@
 
 ghost use Rattle.std.specs.Prelude.{◌≡◌, true, ◌+◌, ◌≤◌, length, take, drop};
 ghost use Rattle.rules.specs.Bundle.{bundle_of};
-ghost use Rattle.rules.proofs.Laws.Bool.{is_some};
+ghost use Rattle.rules.specs.Answer.{is_some};
 ghost use Rattle.rules.specs.Files.{view, fetch, plain, opened, has_citation, project_root};
 ghost use Rattle.bundle.specs.Find.{Finds, entries_of};
 ghost use Rattle.bundle.specs.Open.{Opens, there, Root};

@@ -4,7 +4,7 @@ use Rattle.std.proofs.Common.{sym, arith}
 use Rattle.std.proofs.Math.Option.{Option, none, some}
 use Rattle.rules.specs.Layout.{bind, ◌>>=◌, ◌>>◌, pure, require, broken, remaining, times}
 use Rattle.rules.specs.Bundle.{Entry, entry, good_paths, paths_of, bundle_parser, bundle_of}
-use Rattle.rules.proofs.Laws.Bool.{is_some}
+use Rattle.rules.specs.Answer.{is_some}
 use Rattle.rules.proofs.Laws.Layout.{word-at, word_end}
 
 -- What the bundle holds, by what is still to be read behind the entries es.

@@ -9,7 +9,8 @@ use borrow.Author.Tests.{le-leb, lt-leb, eq-eqb, ne_eqb, leb-false, not-true}
 use Rattle.rules.specs.Bytes.{is_path, less}
 use Rattle.rules.specs.Layout.{Parser, bind, ◌>>=◌, pure, times}
 use Rattle.rules.specs.Bundle.{Entry, entry, good_paths, paths_of, bundle_of}
-use Rattle.rules.proofs.Laws.Bool.{and_l, and_r, is_some}
+use Rattle.rules.specs.Answer.{is_some}
+use Rattle.rules.proofs.Laws.Bool.{and_l, and_r}
 use Rattle.paths.specs.Paths.{path-long}
 use Rattle.paths.specs.declared.Joined.{Joined}
 use Rattle.bundle_entries.specs.Whole.{finish, closing, bundle-rest}

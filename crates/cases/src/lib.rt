@@ -22,7 +22,7 @@ pub fn short_at(bytes: &[u8], at: usize) -> usize
 }
 
 // Where the bytes of a field stand.
-#[derive(Drop)]
+#[derive(Clone, Copy)]
 pub struct Part {
     pub from: usize,
     pub to: usize,
@@ -93,7 +93,7 @@ pub fn differs<W: Write>(case: u64, out: &mut W) -> Result<()>
 }
 
 // What was replayed.
-#[derive(Drop)]
+#[derive(Clone, Copy)]
 pub struct Tally {
     pub cases: u64,
     pub differing: u64,

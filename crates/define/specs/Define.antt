@@ -4,7 +4,7 @@ use Rattle.std.proofs.Math.Path.{sym, ap}
 use Rattle.std.proofs.Common.{◌∙◌, arith, add-zero, le-leb}
 use Rattle.std.proofs.Math.Nat.{sub-zero}
 use Rattle.std.proofs.lemmas.Bool.{lt-leb}
-use Rattle.rules.specs.Answer.{Answer, refused, ◌>>=◌, ◌>>◌, check, or_refuse}
+use Rattle.rules.specs.Answer.{Answer, refused, ◌>>=◌, ◌>>◌, check, or_refuse, is_some}
 use Rattle.rules.specs.Reader.{all}
 use Rattle.rules.specs.Bytes.{ascii, parent}
 use Rattle.rules.specs.Bundle.{Entry, bundle_of}
@@ -12,7 +12,7 @@ use Rattle.rules.specs.Files.{view, fetch}
 use Rattle.rules.specs.Sheet.{Records, sheet_length}
 use Rattle.rules.specs.Imports.{file_sheet, imported_sheet, definitions}
 use Rattle.rules.specs.Calls.{limit, zeros, padded, defined_answer, parse_definitions_result}
-use Rattle.rules.proofs.Laws.Bool.{is_some, true-some, false-some}
+use Rattle.rules.proofs.Laws.Bool.{true-some, false-some}
 use Rattle.bundle.specs.Find.{entries_of, entries-some}
 use Rattle.bundle.specs.Open.{Opens, answer_of}
 use Rattle.bundle.specs.declared.Opened.{Opened}

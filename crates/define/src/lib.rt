@@ -8,7 +8,7 @@ ghost use Rattle.rules.specs.Bundle.{bundle_of};
 ghost use Rattle.rules.specs.Files.{view};
 ghost use Rattle.rules.specs.Imports.{definitions};
 ghost use Rattle.rules.specs.Calls.{limit, parse_definitions_result};
-ghost use Rattle.rules.proofs.Laws.Bool.{is_some};
+ghost use Rattle.rules.specs.Answer.{is_some};
 ghost use Rattle.bundle.specs.Find.{entries_of};
 ghost use Rattle.define.specs.Define.{refused_outcome, Defines};
 

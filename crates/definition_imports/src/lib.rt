@@ -5,7 +5,7 @@ ghost use Rattle.std.specs.Prelude.{◌≡◌, true, List, ℕ, ◌+◌, ◌≤�
 ghost use Rattle.rules.specs.Bytes.{join};
 ghost use Rattle.rules.specs.Bundle.{bundle_of};
 ghost use Rattle.rules.specs.Files.{view};
-ghost use Rattle.rules.proofs.Laws.Bool.{is_some};
+ghost use Rattle.rules.specs.Answer.{is_some};
 ghost use Rattle.bundle.specs.Find.{entries_of};
 ghost use Rattle.strings.specs.Paths.{PathIn};
 ghost use Rattle.definition_imports.specs.Import.{ReadsImport, JoinsPath, IsFile, OpensImport, ImportsAt};

@@ -6,7 +6,7 @@ ghost use Rattle.rules.specs.Reader.{all};
 ghost use Rattle.rules.specs.Bytes.{ascii};
 ghost use Rattle.rules.specs.Bundle.{bundle_of};
 ghost use Rattle.rules.specs.Files.{view};
-ghost use Rattle.rules.proofs.Laws.Bool.{is_some};
+ghost use Rattle.rules.specs.Answer.{is_some};
 ghost use Rattle.bundle.specs.Find.{entries_of};
 ghost use Rattle.binding.specs.Use.{Keeps};
 ghost use Rattle.expansion_steps.specs.Call.{Space};
@@ -43,10 +43,11 @@ pub fn expand(
     let mut q = p;
     let mut len = n;
     let mut whole = true;
-    loop {
+    'steps: loop {
         let at = scan::find(text, done, b'#');
         q = buffers::put(out, room, q, &text[done..at]);
-        if room < q {
+        let over = room < q;
+        if over {
             return Expanded {
                 ok: false,
                 number: full,

@@ -5,7 +5,7 @@ ghost use Rattle.rules.specs.Bundle.{bundle_of};
 ghost use Rattle.rules.specs.Files.{view};
 ghost use Rattle.rules.specs.Sheet.{resolve};
 ghost use Rattle.rules.specs.Expansion.{call_step, raw, link};
-ghost use Rattle.rules.proofs.Laws.Bool.{is_some};
+ghost use Rattle.rules.specs.Answer.{is_some};
 ghost use Rattle.scan.specs.Sets.{part, Starts};
 ghost use Rattle.bundle.specs.Find.{entries_of};
 ghost use Rattle.sheet.specs.Find.{IsSheet};

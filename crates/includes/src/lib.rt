@@ -7,7 +7,7 @@ ghost use Rattle.rules.specs.Bundle.{bundle_of};
 ghost use Rattle.rules.specs.Files.{view};
 ghost use Rattle.rules.specs.Includes.{inside_file, include_step};
 ghost use Rattle.buffers.specs.Put.{Writer};
-ghost use Rattle.rules.proofs.Laws.Bool.{is_some};
+ghost use Rattle.rules.specs.Answer.{is_some};
 ghost use Rattle.bundle.specs.Find.{entries_of};
 ghost use Rattle.includes.specs.Resolve.{PutsRead, refused_text, finished_text, Resolves};
 ghost use Rattle.marks.specs.Read.{Within};
@@ -109,11 +109,12 @@ pub fn resolve(
     let mut q = p;
     let mut whole = true;
     let mut known = marks::ahead::nothing();
-    loop {
+    'marks: loop {
         let next = marks::next_mark(text, done);
         let at = next.at;
         q = buffers::put(out, room, q, &text[done..at]);
-        if room < q {
+        let over = room < q;
+        if over {
             return refused(full, q);
         }
         let found = next.found;

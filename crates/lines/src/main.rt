@@ -210,7 +210,7 @@ fn load_same(case: &[u8]) -> bool {
 }
 
 // What a case came to: whether the answer is the one given, and how long the case is behind its tag.
-#[derive(Drop)]
+#[derive(Clone, Copy)]
 struct Done {
     pub same: bool,
     pub len: usize,

@@ -2,12 +2,12 @@
 use Rattle.std.specs.Prelude.{◌≡◌, refl, List, Bool, true, false, ℕ}
 use Rattle.std.proofs.Common.{sym, ap, ◌∙◌}
 use Rattle.std.proofs.Math.Option.{Option, none, some}
-use Rattle.rules.specs.Answer.{◌>>=◌, ◌>>◌, check, or_refuse}
+use Rattle.rules.specs.Answer.{◌>>=◌, ◌>>◌, check, or_refuse, is_some}
 use Rattle.rules.specs.Bytes.{is_path}
 use Rattle.rules.specs.Bundle.{Entry, bundle_of}
 use Rattle.rules.specs.Files.{entry_at, is_folder_of}
 use Rattle.rules.specs.Calls.{Found, found_entry, found_answer, find_file_result, find_file_of}
-use Rattle.rules.proofs.Laws.Bool.{is_some, true-some, false-some}
+use Rattle.rules.proofs.Laws.Bool.{true-some, false-some}
 use Rattle.bundle.specs.Find.{entries_of, entries-some, located, Finds}
 use Rattle.bundle.specs.declared.Found.{Found as Seen}
 use Rattle.bundle.specs.declared.Found.TheVariants.{Absent, Folder, File}

@@ -5,12 +5,12 @@ use Rattle.std.proofs.Math.Nat.{sub-zero}
 use Rattle.std.proofs.lemmas.List.Edits.{sets}
 use Rattle.std.proofs.Math.Seq.{length-sets}
 use Rattle.std.proofs.lemmas.Bool.{lt-leb}
-use Rattle.rules.specs.Answer.{◌>>=◌, ◌>>◌, check, or_refuse}
+use Rattle.rules.specs.Answer.{◌>>=◌, ◌>>◌, check, or_refuse, is_some}
 use Rattle.rules.specs.Reader.{all}
 use Rattle.rules.specs.Bytes.{ascii, word}
 use Rattle.rules.specs.Sheet.{Records, encode, good_records, sheet_of, resolve, text_of}
 use Rattle.rules.specs.Calls.{zeros, padded, looked_answer, resolve_result, resolve_of}
-use Rattle.rules.proofs.Laws.Bool.{is_some, false-some}
+use Rattle.rules.proofs.Laws.Bool.{false-some}
 use Rattle.sheet.specs.declared.lookup.Found.{Found}
 use Rattle.sheet.specs.Use.{known}
 use Rattle.sheet.specs.Order.{underscored_if}

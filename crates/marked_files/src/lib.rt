@@ -7,7 +7,7 @@ ghost use Rattle.rules.specs.Bytes.{join};
 ghost use Rattle.rules.specs.Bundle.{bundle_of};
 ghost use Rattle.rules.specs.Files.{view};
 ghost use Rattle.buffers.specs.Put.{Writer};
-ghost use Rattle.rules.proofs.Laws.Bool.{is_some};
+ghost use Rattle.rules.specs.Answer.{is_some};
 ghost use Rattle.bundle.specs.Find.{entries_of};
 ghost use Rattle.marked_files.specs.Files.{refused_file, OpensFile, EndsLine};
 

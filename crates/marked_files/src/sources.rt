@@ -6,7 +6,7 @@ ghost use Rattle.rules.specs.Bundle.{bundle_of};
 ghost use Rattle.rules.specs.Files.{view, opened, project_root};
 ghost use Rattle.rules.specs.Includes.{last_newline, fenced};
 ghost use Rattle.buffers.specs.Put.{Writer, Put};
-ghost use Rattle.rules.proofs.Laws.Bool.{is_some};
+ghost use Rattle.rules.specs.Answer.{is_some};
 ghost use Rattle.bundle.specs.Find.{entries_of};
 ghost use Rattle.bundle.specs.Open.{Opens};
 ghost use Rattle.buffers.specs.Emits.{Emits};

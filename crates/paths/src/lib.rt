@@ -118,7 +118,8 @@ pub fn parent(p: &[u8]) -> usize
     let mut last: usize = 0;
     let mut i: usize = 0;
     while i < p.len() {
-        if p[i] == b'/' {
+        let slash = p[i] == b'/';
+        if slash {
             last = i;
         }
         i += 1;

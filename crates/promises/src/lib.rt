@@ -1,3 +1,3 @@
 #![tactic(auto)]
 
-// Theorems over the definitions of `rules`, in specs/; this crate has no code.
+// Theorems over the definitions of `rules`, in proofs/; this crate has no code.

@@ -7,7 +7,7 @@ ghost use Rattle.rules.specs.Bundle.{bundle_of};
 ghost use Rattle.rules.specs.Files.{view};
 ghost use Rattle.rules.specs.Sheet.{resolve};
 ghost use Rattle.rules.specs.Expansion.{raw_text, raw};
-ghost use Rattle.rules.proofs.Laws.Bool.{is_some};
+ghost use Rattle.rules.specs.Answer.{is_some};
 ghost use Rattle.buffers.specs.Emits.{Fills};
 ghost use Rattle.buffers.specs.Put.{Writer};
 ghost use Rattle.bundle.specs.Find.{entries_of};

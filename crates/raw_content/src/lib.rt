@@ -6,7 +6,7 @@ ghost use Rattle.rules.specs.Bundle.{bundle_of};
 ghost use Rattle.rules.specs.Files.{view, opened};
 ghost use Rattle.rules.specs.Sheet.{resolve};
 ghost use Rattle.rules.specs.Expansion.{without_slash, read_call, content};
-ghost use Rattle.rules.proofs.Laws.Bool.{is_some};
+ghost use Rattle.rules.specs.Answer.{is_some};
 ghost use Rattle.buffers.specs.Put.{Writer, Put};
 ghost use Rattle.bundle.specs.Find.{entries_of};
 ghost use Rattle.bundle.specs.Open.{Opens, stop};

@@ -5,7 +5,8 @@ use Rattle.std.proofs.Math.Option.{Option, some}
 use Rattle.rules.specs.Reader.{all}
 use Rattle.rules.specs.Bytes.{is_byte, word}
 use Rattle.rules.specs.Sheet.{Value, text, nothing, dictionary, Records, encode, good_records, sheet_of}
-use Rattle.rules.proofs.Laws.Bool.{and_i, ltb-true, is_some, true-some}
+use Rattle.rules.specs.Answer.{is_some}
+use Rattle.rules.proofs.Laws.Bool.{and_i, ltb-true, true-some}
 use Rattle.rules.proofs.Laws.Sheet.{sheet-good, sheet_canonical}
 use Rattle.sheet.specs.Find.{IsSheet, Gives}
 use Rattle.sheet.specs.declared.lookup.Found.{Found}

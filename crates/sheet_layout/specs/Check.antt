@@ -14,7 +14,8 @@ use Rattle.rules.specs.Reader.{all}
 use Rattle.rules.specs.Bytes.{ascii, word, name_byte, less}
 use Rattle.rules.specs.Layout.{Parser, bind, ◌>>=◌, pure, broken, bit, byte, word16, field, field_if}
 use Rattle.rules.specs.Sheet.{Value, text, nothing, dictionary, Records, end, rec, value, one_record, some_records, all_records, levels, decode, before, good_value, good_records, sheet_of}
-use Rattle.rules.proofs.Laws.Bool.{and_l, and_r, and_i, is_some}
+use Rattle.rules.specs.Answer.{is_some}
+use Rattle.rules.proofs.Laws.Bool.{and_l, and_r, and_i}
 use Rattle.sheet.specs.Heads.{Shape, plain, absent, holding, shape_kind, shape_text, shape_count, shape, head, IsItem, Reads}
 use Rattle.sheet.specs.Order.{order_of, underscored_if, order-less}
 use Rattle.sheet.specs.declared.head.Head.{Head}

@@ -3,7 +3,7 @@
 
 ghost use Rattle.std.specs.Prelude.{◌≡◌, ◌≤◌, length, drop};
 ghost use Rattle.rules.specs.Sheet.{sheet_of};
-ghost use Rattle.rules.proofs.Laws.Bool.{is_some};
+ghost use Rattle.rules.specs.Answer.{is_some};
 ghost use Rattle.rules.specs.Reader.{all};
 ghost use Rattle.scan.specs.Sets.{member};
 ghost use Rattle.sheet_layout.specs.Check.{body, within, keeps_rules, InSheet, InLast, last_in, Enters, EndsAt};

@@ -5,19 +5,19 @@ use Rattle.arguments.specs.Given.{judges-two, judges-three, judges-four, judges-
 use Rattle.arguments.proofs.refusal.Goals as goal
 
 pub returns-then-not-check : goal.returns-then-not-check
-returns-then-not-check c = judges-two (sym c.check.ensures ∙ not-true _ c.if-not-check.true-raw)
+returns-then-not-check c = judges-two (sym c.check.ensures ∙ c.if-not-check.true)
 
 pub returns-then-not-check-2 : goal.returns-then-not-check-2
-returns-then-not-check-2 c = judges-three (sym c.check.ensures ∙ not-false _ c.if-not-check.false-raw) (sym c.check-else-not-check.ensures ∙ not-true _ c.if-not-check-2.true-raw)
+returns-then-not-check-2 c = judges-three (sym c.check.ensures ∙ c.if-not-check.false) (sym c.check-else-not-check.ensures ∙ c.if-not-check-2.true)
 
 pub returns-then-not-is_folder : goal.returns-then-not-is_folder
-returns-then-not-is_folder c = judges-four (sym c.check.ensures ∙ not-false _ c.if-not-check.false-raw) (λ i. omega (arith, c.type_inv.sheet i)) (sym c.check-else-not-check.ensures ∙ not-false _ c.if-not-check-2.false-raw) (sym c.is_folder.ensures ∙ not-true _ c.if-not-is_folder.true-raw)
+returns-then-not-is_folder c = judges-four (sym c.check.ensures ∙ c.if-not-check.false) (λ i. omega (arith, c.type_inv.sheet i)) (sym c.check-else-not-check.ensures ∙ c.if-not-check-2.false) (sym c.is_folder.ensures ∙ c.if-not-is_folder.true)
 
 pub returns-then-not-is_ascii : goal.returns-then-not-is_ascii
-returns-then-not-is_ascii c = judges-six (sym c.check.ensures ∙ not-false _ c.if-not-check.false-raw) (λ i. omega (arith, c.type_inv.sheet i)) (sym c.check-else-not-check.ensures ∙ not-false _ c.if-not-check-2.false-raw) (sym c.is_folder.ensures ∙ not-false _ c.if-not-is_folder.false-raw) (sym c.is_ascii.ensures ∙ not-true _ c.if-not-is_ascii.true-raw)
+returns-then-not-is_ascii c = judges-six (sym c.check.ensures ∙ c.if-not-check.false) (λ i. omega (arith, c.type_inv.sheet i)) (sym c.check-else-not-check.ensures ∙ c.if-not-check-2.false) (sym c.is_folder.ensures ∙ c.if-not-is_folder.false) (sym c.is_ascii.ensures ∙ c.if-not-is_ascii.true)
 
 pub returns-then-limit-sheet : goal.returns-then-limit-sheet
-returns-then-limit-sheet c = judges_nine (sym c.check.ensures ∙ not-false _ c.if-not-check.false-raw) (λ i. omega (arith, c.type_inv.sheet i)) (sym c.check-else-not-check.ensures ∙ not-false _ c.if-not-check-2.false-raw) (sym c.is_folder.ensures ∙ not-false _ c.if-not-is_folder.false-raw) (sym c.is_ascii.ensures ∙ not-false _ c.if-not-is_ascii.false-raw) c.if-limit-sheet.true
+returns-then-limit-sheet c = judges_nine (sym c.check.ensures ∙ c.if-not-check.false) (λ i. omega (arith, c.type_inv.sheet i)) (sym c.check-else-not-check.ensures ∙ c.if-not-check-2.false) (sym c.is_folder.ensures ∙ c.if-not-is_folder.false) (sym c.is_ascii.ensures ∙ c.if-not-is_ascii.false) c.if-limit-sheet.true
 
 pub returns-else-limit-sheet : goal.returns-else-limit-sheet
-returns-else-limit-sheet c = judges-none (sym c.check.ensures ∙ not-false _ c.if-not-check.false-raw) (λ i. omega (arith, c.type_inv.sheet i)) (sym c.check-else-not-check.ensures ∙ not-false _ c.if-not-check-2.false-raw) (sym c.is_folder.ensures ∙ not-false _ c.if-not-is_folder.false-raw) (sym c.is_ascii.ensures ∙ not-false _ c.if-not-is_ascii.false-raw) c.if-limit-sheet.false
+returns-else-limit-sheet c = judges-none (sym c.check.ensures ∙ c.if-not-check.false) (λ i. omega (arith, c.type_inv.sheet i)) (sym c.check-else-not-check.ensures ∙ c.if-not-check-2.false) (sym c.is_folder.ensures ∙ c.if-not-is_folder.false) (sym c.is_ascii.ensures ∙ c.if-not-is_ascii.false) c.if-limit-sheet.false

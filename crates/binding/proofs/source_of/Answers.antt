@@ -8,17 +8,11 @@ use Rattle.sheet.specs.contracts.lookup.Found.{the_type}
 use Rattle.binding.specs.Write.{source-none, source-blank, source-text, source-dictionary}
 use Rattle.binding.proofs.source_of.Goals as goal
 
-none_of : {x : ℕ} → 1 < x → (x ≡ 0) ⊎ (x ≡ 1) → ⊥
-none_of h w = ⊎_elim (λ a. omega arith) (λ a. omega arith) w
-
-above : {x y : ℕ} → x ≡ y → 1 < y → 1 < x
-above e h = omega arith
-
 pub returns-then-to-from : goal.returns-then-to-from
 returns-then-to-from c = λ s v g. source-blank s v g c.in-Text.is c.if-to-from.true
 
 pub returns-in-Missing : goal.returns-in-Missing
-returns-in-Missing c = λ s v g. source-none s v _ (λ a b h. none_of (above (ap (tag_of the_type) h) (omega arith)) c.in-Missing.in-Missing-own.keys1) (λ a b n h. none_of (above (ap (tag_of the_type) h) (omega arith)) c.in-Missing.in-Missing-own.keys1) g
+returns-in-Missing c = λ s v g. source-none s v _ (λ a b h. ⊎_elim (λ e. cc) (λ e. cc) c.in-Missing.is) (λ a b n h. ⊎_elim (λ e. cc) (λ e. cc) c.in-Missing.is) g
 
 pub returns-else-to-from : goal.returns-else-to-from
 returns-else-to-from c = λ s v g. source-text s v g c.in-Text.is (search rules)

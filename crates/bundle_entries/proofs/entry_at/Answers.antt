@@ -7,7 +7,7 @@ pub returns-then-b-at : goal.returns-then-b-at
 returns-then-b-at c = entry-end _ _ (search rules) c.no_head.ensures
 
 pub returns-then-not-allowed : goal.returns-then-not-allowed
-returns-then-not-allowed c = entry-no-map _ _ (search rules) c.allowed.ensures (not-true _ c.if-not-allowed.true-raw) c.no_head-then-not-allowed.ensures
+returns-then-not-allowed c = entry-no-map _ _ (search rules) c.allowed.ensures c.if-not-allowed.true c.no_head-then-not-allowed.ensures
 
 pub returns : goal.returns
-returns c = entry_fields_lem _ _ (search rules) c.allowed.ensures (not-false _ c.if-not-allowed.false-raw) c.fields.ensures
+returns c = entry_fields_lem _ _ (search rules) c.allowed.ensures c.if-not-allowed.false c.fields.ensures

@@ -13,16 +13,16 @@ pub returns-then-work-limit : goal.returns-then-work-limit
 returns-then-work-limit c = defines-refused c.refused.ensures refl refl (definitions-one c.args.bundle.now c.args.path.now (length c.args.left.now) (length c.args.work.now) (omega (arith, c.sheet_limit-limit.ensures, c.if-work-limit.true)))
 
 pub returns-then-not-check : goal.returns-then-not-check
-returns-then-not-check c = defines-refused c.refused-then-not-check.ensures refl refl (definitions-two c.args.bundle.now c.args.path.now (length c.args.left.now) (length c.args.work.now) (omega (arith, c.sheet_limit-limit.ensures, c.if-work-limit.false)) (sym c.check.ensures ∙ not-true _ c.if-not-check.true-raw))
+returns-then-not-check c = defines-refused c.refused-then-not-check.ensures refl refl (definitions-two c.args.bundle.now c.args.path.now (length c.args.left.now) (length c.args.work.now) (omega (arith, c.sheet_limit-limit.ensures, c.if-work-limit.false)) (sym c.check.ensures ∙ c.if-not-check.true))
 
 pub fetch-f-requires : goal.fetch-f-requires
-fetch-f-requires c = sym c.check.ensures ∙ not-false _ c.if-not-check.false-raw
+fetch-f-requires c = sym c.check.ensures ∙ c.if-not-check.false
 
 pub define-requires : goal.define-requires
-define-requires c = (sym c.check.ensures ∙ not-false _ c.if-not-check.false-raw, text-inside c.fetch-f.ensures c.in-Text.is, omega (arith, c.sheet_limit-limit.ensures, c.if-work-limit.false))
+define-requires c = (sym c.check.ensures ∙ c.if-not-check.false, text-inside c.fetch-f.ensures c.in-Text.is, omega (arith, c.sheet_limit-limit.ensures, c.if-work-limit.false))
 
 pub returns-in-Refused : goal.returns-in-Refused
-returns-in-Refused c = defines-refused c.refused-in-Refused.ensures refl refl (definitions-no c.args.bundle.now c.args.path.now (length c.args.left.now) (length c.args.work.now) (omega (arith, c.sheet_limit-limit.ensures, c.if-work-limit.false)) (sym c.check.ensures ∙ not-false _ c.if-not-check.false-raw) c.fetch-f.ensures c.in-Refused.is)
+returns-in-Refused c = defines-refused c.refused-in-Refused.ensures refl refl (definitions-no c.args.bundle.now c.args.path.now (length c.args.left.now) (length c.args.work.now) (omega (arith, c.sheet_limit-limit.ensures, c.if-work-limit.false)) (sym c.check.ensures ∙ c.if-not-check.false) c.fetch-f.ensures c.in-Refused.is)
 
 pub returns-in-Text : goal.returns-in-Text
-returns-in-Text c = defines-same (definitions-file c.args.bundle.now c.args.path.now (length c.args.left.now) (length c.args.work.now) (omega (arith, c.sheet_limit-limit.ensures, c.if-work-limit.false)) (sym c.check.ensures ∙ not-false _ c.if-not-check.false-raw) c.fetch-f.ensures c.in-Text.is) c.define.ensures
+returns-in-Text c = defines-same (definitions-file c.args.bundle.now c.args.path.now (length c.args.left.now) (length c.args.work.now) (omega (arith, c.sheet_limit-limit.ensures, c.if-work-limit.false)) (sym c.check.ensures ∙ c.if-not-check.false) c.fetch-f.ensures c.in-Text.is) c.define.ensures

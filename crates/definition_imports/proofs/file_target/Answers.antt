@@ -6,7 +6,7 @@ pub returns-then-levels-eq0 : goal.returns-then-levels-eq0
 returns-then-levels-eq0 c = file_seven _ _ _ _ _ c.if-levels-eq0.true
 
 pub returns-then-not-is_ascii : goal.returns-then-not-is_ascii
-returns-then-not-is_ascii c = file-six _ _ _ _ _ c.if-levels-eq0.false c.is_ascii.ensures (not-true _ c.if-not-is_ascii.true-raw)
+returns-then-not-is_ascii c = file-six _ _ _ _ _ c.if-levels-eq0.false c.is_ascii.ensures c.if-not-is_ascii.true
 
 pub returns : goal.returns
-returns c = file-read _ _ _ _ _ c.if-levels-eq0.false c.is_ascii.ensures (not-false _ c.if-not-is_ascii.false-raw) c.requires c.parent.ensures
+returns c = file-read _ _ _ _ _ c.if-levels-eq0.false c.is_ascii.ensures c.if-not-is_ascii.false c.requires c.parent.ensures

@@ -5,8 +5,8 @@ use Rattle.bundle.specs.Find.{entries_of}
 use Rattle.expansion.specs.Run.{Expanding}
 use Rattle.expansion.proofs.expand.Given as goal
 
-abbrev pub invariant-loop-q : goal.invariant-loop-q
-invariant-loop-q l = Expanding l.limit l.full l.room (view (entries_of l.b)) l.text l.initial.out l.p l.initial.left l.n l.out l.left l.done l.q l.len l.whole
+abbrev pub invariant-steps : goal.invariant-steps
+invariant-steps l = Expanding l.limit l.full l.room (view (entries_of l.b)) l.text l.initial.out l.p l.initial.left l.n l.out l.left l.done l.q l.len l.whole
 
-abbrev pub decreases-loop-q : goal.decreases-loop-q
-decreases-loop-q l = length l.text - l.done
+abbrev pub decreases-steps : goal.decreases-steps
+decreases-steps l = length l.text - l.done

@@ -16,14 +16,14 @@ pub shape_of-left-then-not-starts_with : goal.shape_of-left-then-not-starts_with
 shape_of-left-then-not-starts_with c = c.loop-at.invariant.size
 
 pub returns-then-not-starts_with : goal.returns-then-not-starts_with
-returns-then-not-starts_with c = more-end c.loop-at.invariant c.span-comma.ensures c.starts_with.ensures (not-true _ c.if-not-starts_with.true-raw)
+returns-then-not-starts_with c = more-end c.loop-at.invariant c.span-comma.ensures c.starts_with.ensures c.if-not-starts_with.true
 
 pub overflow_add-comma : goal.overflow_add-comma
-overflow_add-comma c = let s = c.starts_with.ensures.there (not-false _ c.if-not-starts_with.false-raw) in
+overflow_add-comma c = let s = c.starts_with.ensures.there c.if-not-starts_with.false in
     search rules
 
 pub span-from-requires : goal.span-from-requires
-span-from-requires c = let s = c.starts_with.ensures.there (not-false _ c.if-not-starts_with.false-raw) in
+span-from-requires c = let s = c.starts_with.ensures.there c.if-not-starts_with.false in
     search rules
 
 pub bind_later-bound-requires : goal.bind_later-bound-requires
@@ -33,11 +33,11 @@ pub shape_of-left-in_default : goal.shape_of-left-in_default
 shape_of-left-in_default c = c.bind_later-bound.ensures.size ∙ c.loop-at.invariant.size
 
 pub returns-in_default : goal.returns-in_default
-returns-in_default c = more-over c.loop-at.invariant c.span-comma.ensures c.starts_with.ensures (not-false _ c.if-not-starts_with.false-raw) c.span-from.ensures c.span-to.ensures c.bind_later-bound.ensures c.in_default.is
+returns-in_default c = more-over c.loop-at.invariant c.span-comma.ensures c.starts_with.ensures c.if-not-starts_with.false c.span-from.ensures c.span-to.ensures c.bind_later-bound.ensures c.in_default.is
 
 pub loop-at-smaller : goal.loop-at-smaller
-loop-at-smaller c = let s = c.starts_with.ensures.there (not-false _ c.if-not-starts_with.false-raw) in
+loop-at-smaller c = let s = c.starts_with.ensures.there c.if-not-starts_with.false in
     omega (arith, c.span-comma.ensures.on, c.span-from.ensures.on, c.span-to.ensures.on, c.span-to.ensures.inside)
 
 pub loop-at-preserved : goal.loop-at-preserved
-loop-at-preserved c = more-on c.loop-at.invariant c.span-comma.ensures c.starts_with.ensures (not-false _ c.if-not-starts_with.false-raw) c.span-from.ensures c.span-to.ensures c.bind_later-bound.ensures c.in-Length.is
+loop-at-preserved c = more-on c.loop-at.invariant c.span-comma.ensures c.starts_with.ensures c.if-not-starts_with.false c.span-from.ensures c.span-to.ensures c.bind_later-bound.ensures c.in-Length.is

@@ -9,8 +9,8 @@ use Rattle.includes.proofs.+resolve.Given as goal
 abbrev pub decreases-resolve : goal.decreases-resolve
 decreases-resolve l = l.levels
 
-abbrev pub invariant-loop-q : goal.invariant-loop-q
-invariant-loop-q l = Resolving (view (entries_of l.b)) (inside_file (view (entries_of l.b)) l.levels) l.folder l.text l.full l.room l.initial.out l.p l.out l.done l.q l.whole l.known
+abbrev pub invariant-marks : goal.invariant-marks
+invariant-marks l = Resolving (view (entries_of l.b)) (inside_file (view (entries_of l.b)) l.levels) l.folder l.text l.full l.room l.initial.out l.p l.out l.done l.q l.whole l.known
 
-abbrev pub decreases-loop-q : goal.decreases-loop-q
-decreases-loop-q l = length l.text - l.done
+abbrev pub decreases-marks : goal.decreases-marks
+decreases-marks l = length l.text - l.done

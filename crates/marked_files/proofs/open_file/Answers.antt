@@ -23,7 +23,7 @@ pub slice_bounds-is_ascii-end : goal.slice_bounds-is_ascii-end
 slice_bounds-is_ascii-end c = text-inside c.fetch-f.ensures c.in-Text.is
 
 pub returns-then-not-is_ascii : goal.returns-then-not-is_ascii
-returns-then-not-is_ascii c = same-file c.refused-then-not-is_ascii.ensures (file-six _ _ _ _ c.in-Text.start c.in-Text.len (fetched c.join-p.ensures (not-false _ c.if-not-p.false) _ c.fetch-f.ensures c.in-Text.is) c.if-levels-eq0.false c.is_ascii.ensures (not-true _ c.if-not-is_ascii.true-raw))
+returns-then-not-is_ascii c = same-file c.refused-then-not-is_ascii.ensures (file-six _ _ _ _ c.in-Text.start c.in-Text.len (fetched c.join-p.ensures (not-false _ c.if-not-p.false) _ c.fetch-f.ensures c.in-Text.is) c.if-levels-eq0.false c.is_ascii.ensures c.if-not-is_ascii.true)
 
 pub slice_bounds-parent-end : goal.slice_bounds-parent-end
 slice_bounds-parent-end c = start-length _ _ c.join-p.ensures.size c.join-p.ensures.fits
@@ -33,4 +33,4 @@ returns-in-Refused c = same-file c.refused-in-Refused.ensures (file-refused _ _ 
 
 pub returns-else-not-is_ascii : goal.returns-else-not-is_ascii
 returns-else-not-is_ascii c = let p = parent_of c.join-p.ensures (not-false _ c.if-not-p.false) c.parent-folder_len.ensures in
-    file_open _ _ _ _ c.in-Text.start c.in-Text.len (fetched c.join-p.ensures (not-false _ c.if-not-p.false) _ c.fetch-f.ensures c.in-Text.is) c.if-levels-eq0.false c.is_ascii.ensures (not-false _ c.if-not-is_ascii.false-raw) p.0 p.1 (text-inside c.fetch-f.ensures c.in-Text.is)
+    file_open _ _ _ _ c.in-Text.start c.in-Text.len (fetched c.join-p.ensures (not-false _ c.if-not-p.false) _ c.fetch-f.ensures c.in-Text.is) c.if-levels-eq0.false c.is_ascii.ensures c.if-not-is_ascii.false p.0 p.1 (text-inside c.fetch-f.ensures c.in-Text.is)

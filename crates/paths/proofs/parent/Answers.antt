@@ -1,15 +1,15 @@
 use Rattle.std.proofs.Common.{rules}
 use Rattle.paths.specs.Paths.{climbing-start, climbing-slash, climbing-other, climbing-end}
 use Rattle.paths.proofs.parent.Goals as goal
-use Rattle.paths.proofs.parent.Goals.{then-p-i-eq47, else-p-i-eq47}
+use Rattle.paths.proofs.parent.Goals.{then-slash, else-slash}
 
 pub loop-i-init : goal.loop-i-init
 loop-i-init c = climbing-start _
 
 pub loop-i-preserved : goal.loop-i-preserved
-loop-i-preserved c = elim c.if-p-i-eq47.branch [
-  | then-p-i-eq47 w ↦ climbing-slash c.loop-i.invariant (search rules) w.if-p-i-eq47.true w.last-is
-  | else-p-i-eq47 w ↦ climbing-other c.loop-i.invariant (search rules) w.if-p-i-eq47.false w.last-is
+loop-i-preserved c = elim c.if-slash.branch [
+  | then-slash w ↦ climbing-slash c.loop-i.invariant (search rules) w.if-slash.true w.last-is
+  | else-slash w ↦ climbing-other c.loop-i.invariant (search rules) w.if-slash.false w.last-is
 ]
 
 pub returns : goal.returns

@@ -7,10 +7,10 @@ pub returns-then-x-eq47 : goal.returns-then-x-eq47
 returns-then-x-eq47 c = c.ended.ensures ∙ step-slash _ _ c.if-x-eq47.true
 
 pub returns-then-not-member : goal.returns-then-not-member
-returns-then-not-member c = step-no _ _ c.if-x-eq47.false (sym c.member.ensures ∙ not-true _ c.if-not-member.true-raw)
+returns-then-not-member c = step-no _ _ c.if-x-eq47.false (sym c.member.ensures ∙ c.if-not-member.true)
 
 pub returns-then-x-eq46 : goal.returns-then-x-eq46
-returns-then-x-eq46 c = c.dotted.ensures ∙ step_dot _ _ c.if-x-eq47.false (sym c.member.ensures ∙ not-false _ c.if-not-member.false-raw) c.if-x-eq46.true
+returns-then-x-eq46 c = c.dotted.ensures ∙ step_dot _ _ c.if-x-eq47.false (sym c.member.ensures ∙ c.if-not-member.false) c.if-x-eq46.true
 
 pub returns : goal.returns
-returns c = c.named.ensures ∙ step-name _ _ c.if-x-eq47.false (sym c.member.ensures ∙ not-false _ c.if-not-member.false-raw) c.if-x-eq46.false
+returns c = c.named.ensures ∙ step-name _ _ c.if-x-eq47.false (sym c.member.ensures ∙ c.if-not-member.false) c.if-x-eq46.false

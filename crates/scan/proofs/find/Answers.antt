@@ -12,7 +12,7 @@ pub returns-then-not-block_without : goal.returns-then-not-block_without
 returns-then-not-block_without c = spanning-then _ _ _ _ c.loop-i.invariant c.near.ensures
 
 pub loop-i-preserved : goal.loop-i-preserved
-loop-i-preserved c = spanning_block _ _ _ _ _ c.loop-i.invariant (search rules) (sym c.block_without.ensures ∙ not-false _ c.if-not-block_without.false-raw)
+loop-i-preserved c = spanning_block _ _ _ _ _ c.loop-i.invariant (search rules) (sym c.block_without.ensures ∙ c.if-not-block_without.false)
 
 pub returns : goal.returns
 returns c = spanning-then _ _ _ _ c.loop-i.invariant c.near-2.ensures

@@ -9,11 +9,11 @@ loop-i-init c = spanning-start _ _ _ (search rules)
 
 pub returns-then-not-member : goal.returns-then-not-member
 returns-then-not-member c = let l = c.loop-i in
-    spanning-off _ _ _ _ l.invariant (search rules) (sym c.member.ensures ∙ not-true _ c.if-not-member.true-raw)
+    spanning-off _ _ _ _ l.invariant (search rules) (sym c.member.ensures ∙ c.if-not-member.true)
 
 pub loop-i-preserved : goal.loop-i-preserved
 loop-i-preserved c = let l = c.loop-i in
-    spanning-on _ _ _ _ l.invariant (search rules) (sym c.member.ensures ∙ not-false _ c.if-not-member.false-raw)
+    spanning-on _ _ _ _ l.invariant (search rules) (sym c.member.ensures ∙ c.if-not-member.false)
 
 pub returns : goal.returns
 returns c = spanning-end _ _ _ _ c.loop-i.invariant (search rules)

@@ -18,13 +18,13 @@ pub span-i-requires : goal.span-i-requires
 span-i-requires c = ends-inside c.loop-i.invariant.1 c.round_end-t.ensures
 
 pub returns-then-not-at : goal.returns-then-not-at
-returns-then-not-at c = λ look. (makes-plus (c.loop-i.invariant.1.to look) (c.round_end-t.ensures.round look) (not-false _ c.if-not-t.false) c.span-i.ensures (sees-the "+" c.at.ensures (not-true _ c.if-not-at.true-raw))).ends
+returns-then-not-at c = λ look. (makes-plus (c.loop-i.invariant.1.to look) (c.round_end-t.ensures.round look) (not-false _ c.if-not-t.false) c.span-i.ensures (sees-the "+" c.at.ensures c.if-not-at.true)).ends
 
 pub overflow_add-i-in-loop-i : goal.overflow_add-i-in-loop-i
-overflow_add-i-in-loop-i c = let h = c.at.ensures.there (not-false _ c.if-not-at.false-raw) in search rules
+overflow_add-i-in-loop-i c = let h = c.at.ensures.there c.if-not-at.false in search rules
 
 pub loop-i-smaller : goal.loop-i-smaller
-loop-i-smaller c = let h = c.at.ensures.there (not-false _ c.if-not-at.false-raw) in omega (arith, c.span-i.ensures.on)
+loop-i-smaller c = let h = c.at.ensures.there c.if-not-at.false in omega (arith, c.span-i.ensures.on)
 
 pub loop-i-preserved : goal.loop-i-preserved
-loop-i-preserved c = let h = c.at.ensures.there (not-false _ c.if-not-at.false-raw) in (omega arith, record { text = _; to = λ look. expression-on (c.loop-i.invariant.1.to look) (c.round_end-t.ensures.round look) (not-false _ c.if-not-t.false) c.span-i.ensures (sees-the "+" c.at.ensures (not-false _ c.if-not-at.false-raw)) })
+loop-i-preserved c = let h = c.at.ensures.there c.if-not-at.false in (omega arith, record { text = _; to = λ look. expression-on (c.loop-i.invariant.1.to look) (c.round_end-t.ensures.round look) (not-false _ c.if-not-t.false) c.span-i.ensures (sees-the "+" c.at.ensures c.if-not-at.false) })

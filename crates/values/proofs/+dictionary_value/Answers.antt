@@ -30,7 +30,7 @@ pub dictionary-shape_of-work-then-not-sees : goal.dictionary-shape_of-work-then-
 dictionary-shape_of-work-then-not-sees t c = c.loop-work.invariant.size
 
 pub dictionary-returns-then-not-sees : goal.dictionary-returns-then-not-sees
-dictionary-returns-then-not-sees t c = entering_close _ _ c.loop-work.invariant c.span-j.ensures c.sees.ensures (not-true _ c.if-not-sees.true-raw) (omega (arith, c.loop-work.invariant.short, c.loop-work.invariant.size, slot_le c.args.limit c.args.levels, c.requires.1.fits)) c.close.ensures
+dictionary-returns-then-not-sees t c = entering_close _ _ c.loop-work.invariant c.span-j.ensures c.sees.ensures c.if-not-sees.true (omega (arith, c.loop-work.invariant.short, c.loop-work.invariant.size, slot_le c.args.limit c.args.levels, c.requires.1.fits)) c.close.ensures
 
 pub dictionary-span-k-requires : goal.dictionary-span-k-requires
 dictionary-span-k-requires t c = c.span-j.ensures.inside
@@ -51,29 +51,29 @@ pub dictionary-value-v-requires : goal.dictionary-value-v-requires
 dictionary-value-v-requires t c = (omega (arith, c.requires.0, c.if-levels-eq0.false), (c.span-c.ensures.inside, entering-behind c.requires.1 c.if-levels-eq0.false c.loop-work.invariant, c.requires.2))
 
 pub dictionary-shape_of-work-then-not-v : goal.dictionary-shape_of-work-then-not-v
-dictionary-shape_of-work-then-not-v t c = after-size _ _ c.loop-work.invariant c.span-j.ensures c.sees.ensures (not-false _ c.if-not-sees.false-raw) c.span-k.ensures c.span-c.ensures (entering-two c.requires.1 c.if-levels-eq0.false c.loop-work.invariant) c.value-v.ensures ∙ c.loop-work.invariant.size
+dictionary-shape_of-work-then-not-v t c = after-size _ _ c.loop-work.invariant c.span-j.ensures c.sees.ensures c.if-not-sees.false c.span-k.ensures c.span-c.ensures (entering-two c.requires.1 c.if-levels-eq0.false c.loop-work.invariant) c.value-v.ensures ∙ c.loop-work.invariant.size
 
 pub dictionary-returns-then-not-v : goal.dictionary-returns-then-not-v
-dictionary-returns-then-not-v t c = entering-no _ _ c.loop-work.invariant c.span-j.ensures c.sees.ensures (not-false _ c.if-not-sees.false-raw) c.span-k.ensures c.span-c.ensures (entering-two c.requires.1 c.if-levels-eq0.false c.loop-work.invariant) c.value-v.ensures (not-true _ c.if-not-v.true) c.no_value-then-not-v.ensures
+dictionary-returns-then-not-v t c = entering-no _ _ c.loop-work.invariant c.span-j.ensures c.sees.ensures c.if-not-sees.false c.span-k.ensures c.span-c.ensures (entering-two c.requires.1 c.if-levels-eq0.false c.loop-work.invariant) c.value-v.ensures (not-true _ c.if-not-v.true) c.no_value-then-not-v.ensures
 
 pub dictionary-overflow_add-end : goal.dictionary-overflow_add-end
 dictionary-overflow_add-end t c = omega (arith, c.value-v.ensures.fits, c.requires.1.most)
 
 pub dictionary-bind_behind-o-requires : goal.dictionary-bind_behind-o-requires
-dictionary-bind_behind-o-requires t c = (entry-bindable _ _ c.loop-work.invariant c.span-j.ensures c.sees.ensures (not-false _ c.if-not-sees.false-raw) c.span-k.ensures c.span-c.ensures (entering-two c.requires.1 c.if-levels-eq0.false c.loop-work.invariant) c.value-v.ensures c.requires.2 c.own_room-room.ensures c.requires.1.most, entry-mark _ _ c.loop-work.invariant c.span-j.ensures c.sees.ensures (not-false _ c.if-not-sees.false-raw) c.span-k.ensures c.span-c.ensures (entering-two c.requires.1 c.if-levels-eq0.false c.loop-work.invariant) c.value-v.ensures c.requires.2, omega (arith, c.own_room-room.ensures), omega arith, entry-end _ _ c.loop-work.invariant c.span-j.ensures c.sees.ensures (not-false _ c.if-not-sees.false-raw) c.span-k.ensures c.span-c.ensures (entering-two c.requires.1 c.if-levels-eq0.false c.loop-work.invariant) c.value-v.ensures, entry-source _ _ c.loop-work.invariant c.span-j.ensures c.sees.ensures (not-false _ c.if-not-sees.false-raw) c.span-k.ensures c.span-c.ensures (entering-two c.requires.1 c.if-levels-eq0.false c.loop-work.invariant) c.value-v.ensures c.requires.2 (not-false _ c.if-not-v.false))
+dictionary-bind_behind-o-requires t c = (entry-bindable _ _ c.loop-work.invariant c.span-j.ensures c.sees.ensures c.if-not-sees.false c.span-k.ensures c.span-c.ensures (entering-two c.requires.1 c.if-levels-eq0.false c.loop-work.invariant) c.value-v.ensures c.requires.2 c.own_room-room.ensures c.requires.1.most, entry-mark _ _ c.loop-work.invariant c.span-j.ensures c.sees.ensures c.if-not-sees.false c.span-k.ensures c.span-c.ensures (entering-two c.requires.1 c.if-levels-eq0.false c.loop-work.invariant) c.value-v.ensures c.requires.2, omega (arith, c.own_room-room.ensures), omega arith, entry-end _ _ c.loop-work.invariant c.span-j.ensures c.sees.ensures c.if-not-sees.false c.span-k.ensures c.span-c.ensures (entering-two c.requires.1 c.if-levels-eq0.false c.loop-work.invariant) c.value-v.ensures, entry-source _ _ c.loop-work.invariant c.span-j.ensures c.sees.ensures c.if-not-sees.false c.span-k.ensures c.span-c.ensures (entering-two c.requires.1 c.if-levels-eq0.false c.loop-work.invariant) c.value-v.ensures c.requires.2 (not-false _ c.if-not-v.false))
 
 pub dictionary-shape_of-work-in-Over : goal.dictionary-shape_of-work-in-Over
-dictionary-shape_of-work-in-Over t c = bound-size _ _ c.loop-work.invariant c.span-j.ensures c.sees.ensures (not-false _ c.if-not-sees.false-raw) c.span-k.ensures c.span-c.ensures (entering-two c.requires.1 c.if-levels-eq0.false c.loop-work.invariant) c.value-v.ensures c.requires.2 (not-false _ c.if-not-v.false) c.own_room-room.ensures c.bind_behind-o.ensures
+dictionary-shape_of-work-in-Over t c = bound-size _ _ c.loop-work.invariant c.span-j.ensures c.sees.ensures c.if-not-sees.false c.span-k.ensures c.span-c.ensures (entering-two c.requires.1 c.if-levels-eq0.false c.loop-work.invariant) c.value-v.ensures c.requires.2 (not-false _ c.if-not-v.false) c.own_room-room.ensures c.bind_behind-o.ensures
 
 pub dictionary-returns-in-Over : goal.dictionary-returns-in-Over
-dictionary-returns-in-Over t c = entering-over _ _ c.loop-work.invariant c.span-j.ensures c.sees.ensures (not-false _ c.if-not-sees.false-raw) c.span-k.ensures c.span-c.ensures (entering-two c.requires.1 c.if-levels-eq0.false c.loop-work.invariant) c.value-v.ensures c.requires.2 (not-false _ c.if-not-v.false) c.own_room-room.ensures c.bind_behind-o.ensures c.in-Over.is c.no_value-in-Over.ensures
+dictionary-returns-in-Over t c = entering-over _ _ c.loop-work.invariant c.span-j.ensures c.sees.ensures c.if-not-sees.false c.span-k.ensures c.span-c.ensures (entering-two c.requires.1 c.if-levels-eq0.false c.loop-work.invariant) c.value-v.ensures c.requires.2 (not-false _ c.if-not-v.false) c.own_room-room.ensures c.bind_behind-o.ensures c.in-Over.is c.no_value-in-Over.ensures
 
 pub dictionary-loop-work-smaller : goal.dictionary-loop-work-smaller
-dictionary-loop-work-smaller t c = let h = entering-moves _ _ c.loop-work.invariant c.span-j.ensures c.sees.ensures (not-false _ c.if-not-sees.false-raw) c.span-k.ensures c.span-c.ensures (entering-two c.requires.1 c.if-levels-eq0.false c.loop-work.invariant) c.value-v.ensures c.requires.2 (not-false _ c.if-not-v.false) c.own_room-room.ensures c.bind_behind-o.ensures c.in-Length.is in
+dictionary-loop-work-smaller t c = let h = entering-moves _ _ c.loop-work.invariant c.span-j.ensures c.sees.ensures c.if-not-sees.false c.span-k.ensures c.span-c.ensures (entering-two c.requires.1 c.if-levels-eq0.false c.loop-work.invariant) c.value-v.ensures c.requires.2 (not-false _ c.if-not-v.false) c.own_room-room.ensures c.bind_behind-o.ensures c.in-Length.is in
     omega (arith, h, c.value-v.ensures.inside)
 
 pub dictionary-loop-work-preserved : goal.dictionary-loop-work-preserved
-dictionary-loop-work-preserved t c = entering-on _ _ c.loop-work.invariant c.span-j.ensures c.sees.ensures (not-false _ c.if-not-sees.false-raw) c.span-k.ensures c.span-c.ensures (entering-two c.requires.1 c.if-levels-eq0.false c.loop-work.invariant) c.value-v.ensures c.requires.2 (not-false _ c.if-not-v.false) c.own_room-room.ensures c.bind_behind-o.ensures c.in-Length.is
+dictionary-loop-work-preserved t c = entering-on _ _ c.loop-work.invariant c.span-j.ensures c.sees.ensures c.if-not-sees.false c.span-k.ensures c.span-c.ensures (entering-two c.requires.1 c.if-levels-eq0.false c.loop-work.invariant) c.value-v.ensures c.requires.2 (not-false _ c.if-not-v.false) c.own_room-room.ensures c.bind_behind-o.ensures c.in-Length.is
 
 pub value-span-i-requires : goal.value-span-i-requires
 value-span-i-requires t c = c.requires.0

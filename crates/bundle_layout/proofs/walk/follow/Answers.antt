@@ -20,10 +20,10 @@ pub keeps-requires : goal.keeps-requires
 keeps-requires c = (c.agree-k.ensures, omega (arith, start-length c.args.path.len c.args.path.bytes c.requires.2 c.requires.1, c.requires.1))
 
 pub returns-then-not-keeps : goal.returns-then-not-keeps
-returns-then-not-keeps c = follow_no _ _ _ c.agree-k.ensures c.keeps.ensures (not-true _ c.if-not-keeps.true-raw) c.start.ensures
+returns-then-not-keeps c = follow_no _ _ _ c.agree-k.ensures c.keeps.ensures c.if-not-keeps.true c.start.ensures
 
 pub mark-marks-requires : goal.mark-marks-requires
-mark-marks-requires c = (omega (arith, keeps-inside c.agree-k.ensures _ c.keeps.ensures (not-false _ c.if-not-keeps.false-raw), start-length c.args.path.len c.args.path.bytes c.requires.2 c.requires.1), c.requires.1, c.requires.0.marks)
+mark-marks-requires c = (omega (arith, keeps-inside c.agree-k.ensures _ c.keeps.ensures c.if-not-keeps.false, start-length c.args.path.len c.args.path.bytes c.requires.2 c.requires.1), c.requires.1, c.requires.0.marks)
 
 pub returns : goal.returns
-returns c = follow_yes _ _ _ c.agree-k.ensures c.keeps.ensures (not-false _ c.if-not-keeps.false-raw) c.requires.1 c.requires.2 c.mark-marks.ensures
+returns c = follow_yes _ _ _ c.agree-k.ensures c.keeps.ensures c.if-not-keeps.false c.requires.1 c.requires.2 c.mark-marks.ensures

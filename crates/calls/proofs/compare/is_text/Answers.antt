@@ -27,16 +27,16 @@ pub span-i-requires : goal.span-i-requires
 span-i-requires c = term_inside c.loop-z.invariant.2 (c.loop-z.invariant.4 c.requires) (c.term-t.ensures c.requires)
 
 pub returns-then-not-at : goal.returns-then-not-at
-returns-then-not-at c = λ s. compared (expression-last c.loop-z.invariant.2 (c.loop-z.invariant.4 s) (c.term-t.ensures s) (not-false _ c.if-not-t.false) c.span-i.ensures (sees-the "+" c.at.ensures (not-true _ c.if-not-at.true-raw)))
+returns-then-not-at c = λ s. compared (expression-last c.loop-z.invariant.2 (c.loop-z.invariant.4 s) (c.term-t.ensures s) (not-false _ c.if-not-t.false) c.span-i.ensures (sees-the "+" c.at.ensures c.if-not-at.true))
 
 pub overflow_add-i-in-loop-z : goal.overflow_add-i-in-loop-z
-overflow_add-i-in-loop-z c = let h = c.at.ensures.there (not-false _ c.if-not-at.false-raw) in omega (arith, c.well_formed.0.1)
+overflow_add-i-in-loop-z c = let h = c.at.ensures.there c.if-not-at.false in omega (arith, c.well_formed.0.1)
 
 pub loop-z-smaller : goal.loop-z-smaller
-loop-z-smaller c = let h = c.at.ensures.there (not-false _ c.if-not-at.false-raw) in omega (arith, c.span-i.ensures.on)
+loop-z-smaller c = let h = c.at.ensures.there c.if-not-at.false in omega (arith, c.span-i.ensures.on)
 
 pub loop-z-preserved : goal.loop-z-preserved
-loop-z-preserved c = let h = c.at.ensures.there (not-false _ c.if-not-at.false-raw) in (omega arith, put-writer (c.term-t.ensures c.requires).adds.put c.loop-z.invariant.1, c.loop-z.invariant.2, put-length (c.term-t.ensures c.requires).adds.put ∙ c.loop-z.invariant.3, λ s. expression-again c.loop-z.invariant.2 (c.loop-z.invariant.4 s) (c.term-t.ensures s) (not-false _ c.if-not-t.false) c.span-i.ensures (sees-the "+" c.at.ensures (not-false _ c.if-not-at.false-raw)))
+loop-z-preserved c = let h = c.at.ensures.there c.if-not-at.false in (omega arith, put-writer (c.term-t.ensures c.requires).adds.put c.loop-z.invariant.1, c.loop-z.invariant.2, put-length (c.term-t.ensures c.requires).adds.put ∙ c.loop-z.invariant.3, λ s. expression-again c.loop-z.invariant.2 (c.loop-z.invariant.4 s) (c.term-t.ensures s) (not-false _ c.if-not-t.false) c.span-i.ensures (sees-the "+" c.at.ensures c.if-not-at.false))
 
 pub returns : goal.returns
 returns c = λ s. differs (c.loop-z.invariant.4 s) (search rules)

@@ -40,7 +40,7 @@ pub parse-returns : goal.parse-returns
 parse-returns t c = parsed _ _ _ _ c.requires.1 c.loop-i.invariant.1 (search rules) c.loop-i.invariant.0
 
 pub step-other_step-requires : goal.step-other_step-requires
-step-other_step-requires t c = (c.requires.1, c.requires.2, starts_as c.starts_with.ensures (not-true _ c.if-not-starts_with.true-raw), c.requires.3, room-value _ c.requires.4, c.requires.5)
+step-other_step-requires t c = (c.requires.1, c.requires.2, starts_as c.starts_with.ensures c.if-not-starts_with.true, c.requires.3, room-value _ c.requires.4, c.requires.5)
 
 pub step-shape_of-left-then-not-starts_with : goal.step-shape_of-left-then-not-starts_with
 step-shape_of-left-then-not-starts_with t c = (c.other_step.ensures.1 (λ s p n. accepted s)).size
@@ -52,7 +52,7 @@ pub step-returns-then-not-starts_with : goal.step-returns-then-not-starts_with
 step-returns-then-not-starts_with t c = (c.other_step.ensures.0, c.other_step.ensures.1 _)
 
 pub step-find_import-m-requires : goal.step-find_import-m-requires
-step-find_import-m-requires t c = (c.requires.0, c.starts_with.ensures.there (not-false _ c.if-not-starts_with.false-raw))
+step-find_import-m-requires t c = (c.requires.0, c.starts_with.ensures.there c.if-not-starts_with.false)
 
 pub step-slice_bounds-store-end : goal.step-slice_bounds-store-end
 step-slice_bounds-store-end t c = let k = c.requires.3 in omega (arith, k.fits, k.room)
@@ -94,16 +94,16 @@ pub step-shape_of-work-then-not-r : goal.step-shape_of-work-then-not-r
 step-shape_of-work-then-not-r t c = lent-long _ c.requires.3 c.requires.4 (file-there c.find_import-m.ensures c.in-File.is).0 c.store.ensures c.parse-r.ensures
 
 pub step-returns-then-not-r : goal.step-returns-then-not-r
-step-returns-then-not-r t c = (lent-long _ c.requires.3 c.requires.4 (file-there c.find_import-m.ensures c.in-File.is).0 c.store.ensures c.parse-r.ensures, steps_as c.ended-then-not-r.ensures (import-stopped _ _ _ _ _ c.starts_with.ensures (not-false _ c.if-not-starts_with.false-raw) c.find_import-m.ensures _ _ c.in-File.is c.parse-r.ensures (not-true _ c.if-not-r.true)))
+step-returns-then-not-r t c = (lent-long _ c.requires.3 c.requires.4 (file-there c.find_import-m.ensures c.in-File.is).0 c.store.ensures c.parse-r.ensures, steps_as c.ended-then-not-r.ensures (import-stopped _ _ _ _ _ c.starts_with.ensures c.if-not-starts_with.false c.find_import-m.ensures _ _ c.in-File.is c.parse-r.ensures (not-true _ c.if-not-r.true)))
 
 pub step-bind_imported-bound-requires : goal.step-bind_imported-bound-requires
 step-bind_imported-bound-requires t c = (c.find_import-m.ensures.listed, lent-swap _ c.requires.3 c.requires.4 (file-there c.find_import-m.ensures c.in-File.is).0 c.store.ensures c.parse-r.ensures (not-false _ c.if-not-r.false))
 
 pub step-returns-in-Nothing : goal.step-returns-in-Nothing
-step-returns-in-Nothing t c = (refl, steps_as c.ended.ensures (import-nothing _ _ _ _ _ c.starts_with.ensures (not-false _ c.if-not-starts_with.false-raw) c.find_import-m.ensures _ _ c.requires.5 c.in-Nothing.is))
+step-returns-in-Nothing t c = (refl, steps_as c.ended.ensures (import-nothing _ _ _ _ _ c.starts_with.ensures c.if-not-starts_with.false c.find_import-m.ensures _ _ c.requires.5 c.in-Nothing.is))
 
 pub step-returns-in-Refused : goal.step-returns-in-Refused
-step-returns-in-Refused t c = (refl, steps_as c.ended-in-Refused.ensures (import-refused _ _ _ _ _ c.starts_with.ensures (not-false _ c.if-not-starts_with.false-raw) c.find_import-m.ensures _ _ c.in-Refused.is))
+step-returns-in-Refused t c = (refl, steps_as c.ended-in-Refused.ensures (import-refused _ _ _ _ _ c.starts_with.ensures c.if-not-starts_with.false c.find_import-m.ensures _ _ c.in-Refused.is))
 
 pub step-shape_of-left : goal.step-shape_of-left
 step-shape_of-left t c = c.bind_imported-bound.ensures.1.size ∙ c.parse-r.ensures.size
@@ -112,4 +112,4 @@ pub step-shape_of-work : goal.step-shape_of-work
 step-shape_of-work t c = c.bind_imported-bound.ensures.0 ∙ lent-long _ c.requires.3 c.requires.4 (file-there c.find_import-m.ensures c.in-File.is).0 c.store.ensures c.parse-r.ensures
 
 pub step-returns-else-not-r : goal.step-returns-else-not-r
-step-returns-else-not-r t c = (c.bind_imported-bound.ensures.0 ∙ lent-long _ c.requires.3 c.requires.4 (file-there c.find_import-m.ensures c.in-File.is).0 c.store.ensures c.parse-r.ensures, steps_as c.bound_step.ensures (import-bound _ _ _ _ _ c.starts_with.ensures (not-false _ c.if-not-starts_with.false-raw) c.find_import-m.ensures _ _ c.in-File.is c.parse-r.ensures (not-false _ c.if-not-r.false) (lent-saved _ c.requires.3 c.requires.4 (file-there c.find_import-m.ensures c.in-File.is).0 c.store.ensures c.parse-r.ensures) c.bind_imported-bound.ensures.1 c.requires.3))
+step-returns-else-not-r t c = (c.bind_imported-bound.ensures.0 ∙ lent-long _ c.requires.3 c.requires.4 (file-there c.find_import-m.ensures c.in-File.is).0 c.store.ensures c.parse-r.ensures, steps_as c.bound_step.ensures (import-bound _ _ _ _ _ c.starts_with.ensures c.if-not-starts_with.false c.find_import-m.ensures _ _ c.in-File.is c.parse-r.ensures (not-false _ c.if-not-r.false) (lent-saved _ c.requires.3 c.requires.4 (file-there c.find_import-m.ensures c.in-File.is).0 c.store.ensures c.parse-r.ensures) c.bind_imported-bound.ensures.1 c.requires.3))

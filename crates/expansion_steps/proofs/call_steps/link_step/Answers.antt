@@ -16,16 +16,16 @@ pub shape_of-out-then-not-at : goal.shape_of-out-then-not-at
 shape_of-out-then-not-at c = c.show.ensures.emits.size
 
 pub returns-then-not-at : goal.returns-then-not-at
-returns-then-not-at c = step-plain (bytes "#link") _ c.requires.0 c.span-i.ensures c.at.ensures (not-true _ c.if-not-at.true-raw) c.show.ensures
+returns-then-not-at c = step-plain (bytes "#link") _ c.requires.0 c.span-i.ensures c.at.ensures c.if-not-at.true c.show.ensures
 
 pub link-c-requires : goal.link-c-requires
-link-c-requires c = let h = c.at.ensures.there (not-false _ c.if-not-at.false-raw) in (omega arith, space-writer c.requires.1, c.requires.1.buffer, c.requires.2)
+link-c-requires c = let h = c.at.ensures.there c.if-not-at.false in (omega arith, space-writer c.requires.1, c.requires.1.buffer, c.requires.2)
 
 pub end_call-requires : goal.end_call-requires
-end_call-requires c = let h = c.at.ensures.there (not-false _ c.if-not-at.false-raw) in (omega (arith, c.span-i.ensures.on), c.span-i.ensures.inside, space-same (c.link-c.ensures c.requires.2).size c.requires.1)
+end_call-requires c = let h = c.at.ensures.there c.if-not-at.false in (omega (arith, c.span-i.ensures.on), c.span-i.ensures.inside, space-same (c.link-c.ensures c.requires.2).size c.requires.1)
 
 pub shape_of-out : goal.shape_of-out
 shape_of-out c = c.end_call.ensures.size ∙ (c.link-c.ensures c.requires.2).size
 
 pub returns : goal.returns
-returns c = step_call (bytes "#link") _ c.requires.0 c.span-i.ensures c.at.ensures (not-false _ c.if-not-at.false-raw) c.requires.1.place c.link-c.ensures c.requires.2 c.end_call.ensures
+returns c = step_call (bytes "#link") _ c.requires.0 c.span-i.ensures c.at.ensures c.if-not-at.false c.requires.1.place c.link-c.ensures c.requires.2 c.end_call.ensures

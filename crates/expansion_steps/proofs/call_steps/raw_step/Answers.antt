@@ -16,16 +16,16 @@ pub shape_of-out-then-not-at : goal.shape_of-out-then-not-at
 shape_of-out-then-not-at c = c.show.ensures.emits.size
 
 pub returns-then-not-at : goal.returns-then-not-at
-returns-then-not-at c = step-plain (bytes "#raw") _ c.requires.1 c.span-i.ensures c.at.ensures (not-true _ c.if-not-at.true-raw) c.show.ensures
+returns-then-not-at c = step-plain (bytes "#raw") _ c.requires.1 c.span-i.ensures c.at.ensures c.if-not-at.true c.show.ensures
 
 pub raw-c-requires : goal.raw-c-requires
-raw-c-requires c = let h = c.at.ensures.there (not-false _ c.if-not-at.false-raw) in (c.requires.0, omega arith, space-writer c.requires.2, c.requires.2.buffer, c.requires.3)
+raw-c-requires c = let h = c.at.ensures.there c.if-not-at.false in (c.requires.0, omega arith, space-writer c.requires.2, c.requires.2.buffer, c.requires.3)
 
 pub end_call-requires : goal.end_call-requires
-end_call-requires c = let h = c.at.ensures.there (not-false _ c.if-not-at.false-raw) in (omega (arith, c.span-i.ensures.on), c.span-i.ensures.inside, space-same (c.raw-c.ensures c.requires.3).size c.requires.2)
+end_call-requires c = let h = c.at.ensures.there c.if-not-at.false in (omega (arith, c.span-i.ensures.on), c.span-i.ensures.inside, space-same (c.raw-c.ensures c.requires.3).size c.requires.2)
 
 pub shape_of-out : goal.shape_of-out
 shape_of-out c = c.end_call.ensures.size ∙ (c.raw-c.ensures c.requires.3).size
 
 pub returns : goal.returns
-returns c = step_call (bytes "#raw") _ c.requires.1 c.span-i.ensures c.at.ensures (not-false _ c.if-not-at.false-raw) c.requires.2.place c.raw-c.ensures c.requires.3 c.end_call.ensures
+returns c = step_call (bytes "#raw") _ c.requires.1 c.span-i.ensures c.at.ensures c.if-not-at.false c.requires.2.place c.raw-c.ensures c.requires.3 c.end_call.ensures

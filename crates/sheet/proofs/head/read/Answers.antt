@@ -9,10 +9,10 @@ pub returns-then-s-i : goal.returns-then-s-i
 returns-then-s-i c = reads_end _ _ c.if-s-i.true
 
 pub returns-then-not-allowed : goal.returns-then-not-allowed
-returns-then-not-allowed c = reads-map _ _ (search rules) (sym c.allowed.ensures ∙ not-true _ c.if-not-allowed.true-raw)
+returns-then-not-allowed c = reads-map _ _ (search rules) (sym c.allowed.ensures ∙ c.if-not-allowed.true)
 
 pub value_head-requires : goal.value_head-requires
-value_head-requires c = (search rules, sym c.allowed.ensures ∙ not-false _ c.if-not-allowed.false-raw)
+value_head-requires c = (search rules, sym c.allowed.ensures ∙ c.if-not-allowed.false)
 
 pub returns-then-m-eq0 : goal.returns-then-m-eq0
 returns-then-m-eq0 c = reads_plain _ _ (search rules) _ c.if-m-eq0.true c.value_head.ensures
@@ -24,7 +24,7 @@ pub overflow_add-i-5 : goal.overflow_add-i-5
 overflow_add-i-5 c = omega (arith, c.field-n.ensures.inside c.if-n-eq0.false)
 
 pub value_head-requires-2 : goal.value_head-requires-2
-value_head-requires-2 c = (omega (arith, c.field-n.ensures.inside c.if-n-eq0.false), sym c.allowed.ensures ∙ not-false _ c.if-not-allowed.false-raw)
+value_head-requires-2 c = (omega (arith, c.field-n.ensures.inside c.if-n-eq0.false), sym c.allowed.ensures ∙ c.if-not-allowed.false)
 
 pub returns : goal.returns
 returns c = reads-named _ _ (search rules) _ c.if-m-eq0.false c.field-n.ensures c.if-n-eq0.false c.value_head-2.ensures

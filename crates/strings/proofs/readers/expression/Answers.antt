@@ -29,13 +29,13 @@ pub shape_of-out-then-not-at : goal.shape_of-out-then-not-at
 shape_of-out-then-not-at c = put-length (c.term-t.ensures c.requires.2).adds.put ∙ c.loop-z.invariant.2
 
 pub returns-then-not-at : goal.returns-then-not-at
-returns-then-not-at c = λ s. expression-last c.requires.1 (c.loop-z.invariant.3 s) (c.term-t.ensures s) (not-false _ c.if-not-t.false) c.span-i.ensures (sees-the "+" c.at.ensures (not-true _ c.if-not-at.true-raw))
+returns-then-not-at c = λ s. expression-last c.requires.1 (c.loop-z.invariant.3 s) (c.term-t.ensures s) (not-false _ c.if-not-t.false) c.span-i.ensures (sees-the "+" c.at.ensures c.if-not-at.true)
 
 pub overflow_add-i-in-loop-z : goal.overflow_add-i-in-loop-z
-overflow_add-i-in-loop-z c = let h = c.at.ensures.there (not-false _ c.if-not-at.false-raw) in search rules
+overflow_add-i-in-loop-z c = let h = c.at.ensures.there c.if-not-at.false in search rules
 
 pub loop-z-smaller : goal.loop-z-smaller
-loop-z-smaller c = let h = c.at.ensures.there (not-false _ c.if-not-at.false-raw) in omega (arith, c.span-i.ensures.on)
+loop-z-smaller c = let h = c.at.ensures.there c.if-not-at.false in omega (arith, c.span-i.ensures.on)
 
 pub loop-z-preserved : goal.loop-z-preserved
-loop-z-preserved c = let h = c.at.ensures.there (not-false _ c.if-not-at.false-raw) in (omega arith, put-writer (c.term-t.ensures c.requires.2).adds.put c.loop-z.invariant.1, put-length (c.term-t.ensures c.requires.2).adds.put ∙ c.loop-z.invariant.2, λ s. expression-again c.requires.1 (c.loop-z.invariant.3 s) (c.term-t.ensures s) (not-false _ c.if-not-t.false) c.span-i.ensures (sees-the "+" c.at.ensures (not-false _ c.if-not-at.false-raw)))
+loop-z-preserved c = let h = c.at.ensures.there c.if-not-at.false in (omega arith, put-writer (c.term-t.ensures c.requires.2).adds.put c.loop-z.invariant.1, put-length (c.term-t.ensures c.requires.2).adds.put ∙ c.loop-z.invariant.2, λ s. expression-again c.requires.1 (c.loop-z.invariant.3 s) (c.term-t.ensures s) (not-false _ c.if-not-t.false) c.span-i.ensures (sees-the "+" c.at.ensures c.if-not-at.false))
