@@ -1,6 +1,5 @@
 use mathlib.Core.Path.{sym, ◌∙◌}
 use native.Mathlib.Omega.{arith}
-use borrow.Author.Tests.{not-true, not-false}
 use Rattle.arguments.specs.Given.{judges-two, judges-three, judges-four, judges-six, judges_nine, judges-none}
 use Rattle.arguments.proofs.refusal.Goals as goal
 

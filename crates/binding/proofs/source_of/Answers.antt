@@ -1,10 +1,5 @@
 use Rattle.std.proofs.Common.{rules}
-use mathlib.Core.Path.{◌≡◌, ap}
-use mathlib.Core.Logic.{◌⊎◌, ⊎_elim}
-use Prim.Native.Nat.{ℕ, ◌<◌}
-use native.Mathlib.Omega.{arith}
-use denote.Enum.Declared.{tag_of}
-use Rattle.sheet.specs.contracts.lookup.Found.{the_type}
+use mathlib.Core.Logic.{⊎_elim}
 use Rattle.binding.specs.Write.{source-none, source-blank, source-text, source-dictionary}
 use Rattle.binding.proofs.source_of.Goals as goal
 

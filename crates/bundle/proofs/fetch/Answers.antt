@@ -1,4 +1,3 @@
-use borrow.Author.Tests.{not-true, not-false}
 use Rattle.bundle.specs.Open.{fetch-path, fetch-absent, fetch-folder, fetch-file}
 use Rattle.bundle.proofs.fetch.Goals as goal
 

@@ -1,5 +1,4 @@
 use Rattle.std.proofs.Common.{rules}
-use borrow.Author.Tests.{not-true, not-false}
 use Rattle.bundle_entries.specs.Entries.{entry-end, entry-no-map, entry_fields_lem}
 use Rattle.bundle_entries.proofs.entry_at.Goals as goal
 

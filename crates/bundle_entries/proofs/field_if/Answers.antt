@@ -1,5 +1,4 @@
 use Rattle.std.proofs.Common.{rules}
-use borrow.Author.Tests.{not-true, not-false}
 use Rattle.bundle_entries.specs.Entries.{field_off, field-long, field-short}
 use Rattle.bundle_entries.proofs.field_if.Goals as goal
 

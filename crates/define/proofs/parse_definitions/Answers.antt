@@ -1,7 +1,6 @@
 use lib.ListN.{length}
 use mathlib.Core.Path.{refl, sym, ◌∙◌}
 use native.Mathlib.Omega.{arith}
-use borrow.Author.Tests.{not-true, not-false}
 use Rattle.bundle.specs.Open.{text-inside}
 use Rattle.define.specs.Define.{defines-refused, defines-same, limit-small, definitions-one, definitions-two, definitions-no, definitions-file}
 use Rattle.define.proofs.parse_definitions.Goals as goal

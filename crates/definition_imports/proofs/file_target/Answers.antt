@@ -1,4 +1,3 @@
-use borrow.Author.Tests.{not-true, not-false}
 use Rattle.definition_imports.specs.Import.{file_seven, file-six, file-read}
 use Rattle.definition_imports.proofs.file_target.Goals as goal
 

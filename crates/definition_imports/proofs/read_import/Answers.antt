@@ -1,7 +1,6 @@
 use Rattle.std.proofs.Common.{rules}
 use native.Mathlib.Omega.{arith}
 use lib.ListN.{length-take, length-drop}
-use borrow.Author.Tests.{not-true, not-false}
 use Rattle.scan.specs.Stretches.{spans-but}
 use Rattle.definition_imports.specs.Import.{import-none, import-some}
 use Rattle.definition_imports.proofs.read_import.Goals as goal

@@ -1,7 +1,6 @@
 use Rattle.std.proofs.Common.{rules}
 use mathlib.Core.Path.{◌∙◌}
 use native.Mathlib.Omega.{arith}
-use borrow.Author.Tests.{not-true, not-false}
 use Rattle.imported_names.proofs.Names.{word-is}
 use Rattle.imported_names.proofs.Words.{more-start, more-end, more-over, more-on}
 use Rattle.imported_names.proofs.bind_more.Goals as goal

@@ -1,5 +1,4 @@
 use native.Mathlib.Omega.{arith}
-use borrow.Author.Tests.{not-true, not-false}
 use Rattle.link_call.specs.Link.{block_none, block_text_lem}
 use Rattle.link_call.proofs.content_block_end.Goals as goal
 

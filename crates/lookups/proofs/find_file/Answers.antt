@@ -1,5 +1,4 @@
 use mathlib.Core.Path.{sym, ◌∙◌}
-use borrow.Author.Tests.{not-true, not-false}
 use Rattle.lookups.specs.Files.{find_two, find_four, find_found}
 use Rattle.lookups.proofs.find_file.Goals as goal
 

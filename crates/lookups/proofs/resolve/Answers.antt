@@ -1,6 +1,5 @@
 use mathlib.Core.Path.{sym, ◌∙◌}
 use native.Mathlib.Omega.{arith}
-use borrow.Author.Tests.{not-true, not-false}
 use Rattle.sheet.specs.Use.{is-sheet}
 use Rattle.lookups.specs.Laws.{resolve-three, resolve-six, resolve-gives, resolve-gave}
 use Rattle.lookups.proofs.resolve.Goals as goal

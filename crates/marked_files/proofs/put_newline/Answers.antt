@@ -1,4 +1,3 @@
-use borrow.Author.Tests.{not-true, not-false}
 use Rattle.marked_files.specs.Files.{newline-stops, newline-goes}
 use Rattle.marked_files.proofs.put_newline.Goals as goal
 

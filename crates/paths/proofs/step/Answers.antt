@@ -1,5 +1,4 @@
 use mathlib.Core.Path.{sym, ◌∙◌}
-use borrow.Author.Tests.{not-true, not-false}
 use Rattle.paths.specs.Paths.{step-slash, step-no, step_dot, step-name}
 use Rattle.paths.proofs.step.Goals as goal
 

@@ -1,6 +1,5 @@
 use Rattle.std.proofs.Common.{rules}
 use mathlib.Core.Path.{sym, ◌∙◌}
-use borrow.Author.Tests.{not-true, not-false}
 use Rattle.paths.specs.Paths.{trimming-start, trimming-blank, trimming-stop, trimming-none}
 use Rattle.paths.proofs.trim_end.Goals as goal
 

@@ -5,7 +5,6 @@ use mathlib.Core.List.{List, []}
 use mathlib.Core.Option.{none}
 use Prim.Native.Nat.{ℕ}
 use native.Mathlib.Omega.{arith}
-use borrow.Author.Tests.{not-false}
 use Rattle.rules.specs.Sheet.{Lookup}
 use Rattle.scan.specs.Laws.{spanning-start}
 use Rattle.raw_arguments.specs.Args.{args_start, args_end, args_language, args_block, args_nothing, args_stalled, gap_on}

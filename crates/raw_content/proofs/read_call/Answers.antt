@@ -1,7 +1,6 @@
 use Rattle.std.proofs.Common.{rules}
 use native.Mathlib.Omega.{arith}
 use lib.ListN.{length-take, length-drop}
-use borrow.Author.Tests.{not-true, not-false}
 use Rattle.strings.specs.Paths.{path-in}
 use Rattle.raw_content.specs.Content.{read_back, read-file}
 use Rattle.scan.specs.Stretches.{spans-but}

@@ -1,6 +1,5 @@
 use Rattle.std.proofs.Common.{rules}
 use mathlib.Core.Path.{sym, ◌∙◌}
-use borrow.Author.Tests.{not-false}
 use Rattle.scan.specs.Laws.{spanning-start, spanning-then}
 use Rattle.scan.specs.Blocks.{spanning_block}
 use Rattle.scan.proofs.find.Goals as goal

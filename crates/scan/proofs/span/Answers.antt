@@ -1,6 +1,5 @@
 use Rattle.std.proofs.Common.{rules}
 use mathlib.Core.Path.{sym, ◌∙◌}
-use borrow.Author.Tests.{not-true, not-false}
 use Rattle.scan.specs.Laws.{spanning-start, spanning-on, spanning-off, spanning-end}
 use Rattle.scan.proofs.span.Goals as goal
 

@@ -1,4 +1,3 @@
-use borrow.Author.Tests.{not-true, not-false}
 use Rattle.bundle.specs.Find.{above-no, above_at}
 use Rattle.bundle.proofs.near.above.Goals as goal
 

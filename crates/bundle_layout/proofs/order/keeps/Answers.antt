@@ -1,5 +1,4 @@
 use Rattle.std.proofs.Common.{rules}
-use borrow.Author.Tests.{not-true, not-false}
 use Rattle.bundle_layout.specs.Order.{keeps-path, keeps-order, keeps-clash, order-inside}
 use Rattle.bundle_layout.proofs.order.keeps.Goals as goal
 

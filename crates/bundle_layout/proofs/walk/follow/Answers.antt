@@ -1,4 +1,3 @@
-use borrow.Author.Tests.{not-true, not-false}
 use native.Mathlib.Omega.{arith}
 use Rattle.scan.specs.Laws.{start-length}
 use Rattle.bundle_layout.specs.Check.{follow_no, follow_yes, keeps-inside}

@@ -1,7 +1,6 @@
 use Rattle.std.proofs.Common.{rules}
 use mathlib.Core.Path.{refl, ◌∙◌}
 use native.Mathlib.Omega.{arith}
-use borrow.Author.Tests.{not-true, not-false}
 use Rattle.rules.specs.Reader.{bytes}
 use Rattle.expansion_steps.specs.Call.{space-writer, space-same, step-plain, step_call}
 use Rattle.expansion_steps.proofs.call_steps.raw_step.Goals as goal

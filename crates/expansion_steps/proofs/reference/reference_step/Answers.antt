@@ -1,4 +1,3 @@
-use borrow.Author.Tests.{not-true, not-false}
 use Rattle.buffers.specs.Laws.{put-writer}
 use mathlib.Core.Path.{refl}
 use Rattle.scan.specs.Laws.{sees-the}

@@ -1,7 +1,6 @@
 use Rattle.std.proofs.Common.{rules}
 use mathlib.Core.Path.{sym, ◌∙◌}
 use native.Mathlib.Omega.{arith}
-use borrow.Author.Tests.{not-true, not-false}
 use Rattle.sheet.specs.Heads.{reads_end, reads-map, reads_plain, reads-named, reads-no-name}
 use Rattle.sheet.proofs.head.read.Goals as goal
 
