@@ -17,6 +17,7 @@ pub fn sheet_limit(n: usize) -> usize
 pub fn refusal(bundle: &[u8], folder: &[u8], text: &[u8], sheet: &[u8], limit: usize) -> u8
     ensures { Judges bundle.now folder.now text.now sheet.now limit result }
 {
+    let over = limit < sheet.len();
     if !bundle_layout::check(bundle) {
         2
     } else if !sheet_layout::check(sheet) {
@@ -25,7 +26,7 @@ pub fn refusal(bundle: &[u8], folder: &[u8], text: &[u8], sheet: &[u8], limit: u
         4
     } else if !scan::is_ascii(text) {
         6
-    } else if limit < sheet.len() {
+    } else if over {
         9
     } else {
         0

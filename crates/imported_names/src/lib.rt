@@ -51,7 +51,8 @@ fn bind_later(word: &[u8], other: &[u8], left: &mut [u8], n: usize, limit: usize
     requires { IsWord word.now × Ready other.now left.old n limit }
     ensures { BindsNames (listed (listed_more [] word.now)) other.now left.old n limit left.new result }
 {
-    if word.len() == 0 {
+    let empty = word.len() == 0;
+    if empty {
         return Bound::Length(n);
     }
     bind_word(word, other, left, n, limit)

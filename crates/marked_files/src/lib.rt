@@ -77,7 +77,8 @@ pub fn open_file(b: &[u8], folder: &[u8], path: &[u8], levels: usize) -> File
     let p = join(folder, path);
     let bytes = p.bytes;
     let n = p.len;
-    if !p.ok {
+    let over = !p.ok;
+    if over {
         return refused(4, bytes);
     }
     let f = bundle::fetch(b, &bytes[..n]);

@@ -40,7 +40,8 @@ fn put_end(content: &[u8], out: &mut [u8], room: usize, p: usize) -> usize
     if n == 0 {
         return buffers::put(out, room, p, b"\n```\n");
     }
-    if content[n - 1] != b'\n' {
+    let lacks_newline = content[n - 1] != b'\n';
+    if lacks_newline {
         return buffers::put(out, room, p, b"\n```\n");
     }
     buffers::put(out, room, p, b"```\n")

@@ -66,7 +66,8 @@ fn step(s: Segment, x: u8) -> Segment
     if !member(Set::Run, x) {
         return Segment::Bad;
     }
-    if x == b'.' {
+    let dot = x == b'.';
+    if dot {
         return dotted(s);
     }
     named(s)
@@ -171,7 +172,8 @@ pub fn join(folder: &[u8], path: &[u8]) -> Joined
 {
     let mut bytes = [0u8; 255];
     let len = joined_len(folder, path);
-    if 255 < len {
+    let over = 255 < len;
+    if over {
         return Joined {
             ok: false,
             len: 0,

@@ -29,7 +29,8 @@ fn start(s: &[u8], last: usize, name: &[u8], reference: bool) -> usize
     let o = item(s, last);
     let from = o.from;
     let to = o.to;
-    if order(&s[from..to], name, reference) == 2 {
+    let behind = order(&s[from..to], name, reference) == 2;
+    if behind {
         return 0;
     }
     last

@@ -12,7 +12,8 @@ fn put_text(number: u8, out: &mut [u8]) -> usize
     ensures { Shows (shown (refused number)) out.old out.new result }
 {
     buffers::store(out, 0, b"refused ");
-    if number < 10 {
+    let one_digit = number < 10;
+    if one_digit {
         buffers::store(out, 8, &[48 + number, b'\n']);
         return 10;
     }

@@ -77,7 +77,8 @@ pub fn span(text: &[u8], at: usize, set: Set) -> usize
 {
     let mut i = at;
     while i < text.len() {
-        if !member(set, text[i]) {
+        let stop = !member(set, text[i]);
+        if stop {
             return i;
         }
         i += 1;

@@ -15,8 +15,8 @@ returns-then-not-is_folder c = judges-four (sym c.check.ensures ∙ c.if-not-che
 pub returns-then-not-is_ascii : goal.returns-then-not-is_ascii
 returns-then-not-is_ascii c = judges-six (sym c.check.ensures ∙ c.if-not-check.false) (λ i. omega (arith, c.type_inv.sheet i)) (sym c.check-else-not-check.ensures ∙ c.if-not-check-2.false) (sym c.is_folder.ensures ∙ c.if-not-is_folder.false) (sym c.is_ascii.ensures ∙ c.if-not-is_ascii.true)
 
-pub returns-then-limit-sheet : goal.returns-then-limit-sheet
-returns-then-limit-sheet c = judges_nine (sym c.check.ensures ∙ c.if-not-check.false) (λ i. omega (arith, c.type_inv.sheet i)) (sym c.check-else-not-check.ensures ∙ c.if-not-check-2.false) (sym c.is_folder.ensures ∙ c.if-not-is_folder.false) (sym c.is_ascii.ensures ∙ c.if-not-is_ascii.false) c.if-limit-sheet.true
+pub returns-then-over : goal.returns-then-over
+returns-then-over c = judges_nine (sym c.check.ensures ∙ c.if-not-check.false) (λ i. omega (arith, c.type_inv.sheet i)) (sym c.check-else-not-check.ensures ∙ c.if-not-check-2.false) (sym c.is_folder.ensures ∙ c.if-not-is_folder.false) (sym c.is_ascii.ensures ∙ c.if-not-is_ascii.false) c.if-over.true
 
-pub returns-else-limit-sheet : goal.returns-else-limit-sheet
-returns-else-limit-sheet c = judges-none (sym c.check.ensures ∙ c.if-not-check.false) (λ i. omega (arith, c.type_inv.sheet i)) (sym c.check-else-not-check.ensures ∙ c.if-not-check-2.false) (sym c.is_folder.ensures ∙ c.if-not-is_folder.false) (sym c.is_ascii.ensures ∙ c.if-not-is_ascii.false) c.if-limit-sheet.false
+pub returns-else-over : goal.returns-else-over
+returns-else-over c = judges-none (sym c.check.ensures ∙ c.if-not-check.false) (λ i. omega (arith, c.type_inv.sheet i)) (sym c.check-else-not-check.ensures ∙ c.if-not-check-2.false) (sym c.is_folder.ensures ∙ c.if-not-is_folder.false) (sym c.is_ascii.ensures ∙ c.if-not-is_ascii.false) c.if-over.false

@@ -4,8 +4,8 @@ use native.Mathlib.Omega.{arith}
 use Rattle.paths.specs.Paths.{copied-start, copied_on, joins-over, joins-all}
 use Rattle.paths.proofs.join.Goals as goal
 
-pub returns-then-len-gt255 : goal.returns-then-len-gt255
-returns-then-len-gt255 c = joins-over _ _ _ c.joined_len-len.ensures _ refl (search rules)
+pub returns-then-over : goal.returns-then-over
+returns-then-over c = joins-over _ _ _ c.joined_len-len.ensures _ refl (search rules)
 
 pub loop-i-init : goal.loop-i-init
 loop-i-init c = copied-start _ _ _ refl

@@ -8,8 +8,8 @@ returns-then-x-eq47 c = c.ended.ensures ∙ step-slash _ _ c.if-x-eq47.true
 pub returns-then-not-member : goal.returns-then-not-member
 returns-then-not-member c = step-no _ _ c.if-x-eq47.false (sym c.member.ensures ∙ c.if-not-member.true)
 
-pub returns-then-x-eq46 : goal.returns-then-x-eq46
-returns-then-x-eq46 c = c.dotted.ensures ∙ step_dot _ _ c.if-x-eq47.false (sym c.member.ensures ∙ c.if-not-member.false) c.if-x-eq46.true
+pub returns-then-dot : goal.returns-then-dot
+returns-then-dot c = c.dotted.ensures ∙ step_dot _ _ c.if-x-eq47.false (sym c.member.ensures ∙ c.if-not-member.false) c.if-dot.true
 
 pub returns : goal.returns
-returns c = c.named.ensures ∙ step-name _ _ c.if-x-eq47.false (sym c.member.ensures ∙ c.if-not-member.false) c.if-x-eq46.false
+returns c = c.named.ensures ∙ step-name _ _ c.if-x-eq47.false (sym c.member.ensures ∙ c.if-not-member.false) c.if-dot.false

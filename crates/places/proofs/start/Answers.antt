@@ -25,11 +25,11 @@ pub slice_bounds-order-end : goal.slice_bounds-order-end
 slice_bounds-order-end c = let d = c.item-o.ensures _ _ _ _ (there c.requires.marked (search rules)).part in
     omega (arith, d.name.ends, d.name.inside)
 
-pub returns-then-order-eq2 : goal.returns-then-order-eq2
-returns-then-order-eq2 c = λ r m. place-start m.bytes
+pub returns-then-behind : goal.returns-then-behind
+returns-then-behind c = λ r m. place-start m.bytes
 
 pub returns : goal.returns
 returns c = λ r m.
     let k = there m (search rules) in
     let d = c.item-o.ensures _ _ _ _ k.part in
-    place-there (m.order c.if-last-eq0.false) k d.name c.order.ensures c.if-order-eq2.false
+    place-there (m.order c.if-last-eq0.false) k d.name c.order-behind.ensures c.if-behind.false

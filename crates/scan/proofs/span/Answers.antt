@@ -6,13 +6,13 @@ use Rattle.scan.proofs.span.Goals as goal
 pub loop-i-init : goal.loop-i-init
 loop-i-init c = spanning-start _ _ _ (search rules)
 
-pub returns-then-not-member : goal.returns-then-not-member
-returns-then-not-member c = let l = c.loop-i in
-    spanning-off _ _ _ _ l.invariant (search rules) (sym c.member.ensures ∙ c.if-not-member.true)
+pub returns-then-stop : goal.returns-then-stop
+returns-then-stop c = let l = c.loop-i in
+    spanning-off _ _ _ _ l.invariant (search rules) (cc)
 
 pub loop-i-preserved : goal.loop-i-preserved
 loop-i-preserved c = let l = c.loop-i in
-    spanning-on _ _ _ _ l.invariant (search rules) (sym c.member.ensures ∙ c.if-not-member.false)
+    spanning-on _ _ _ _ l.invariant (search rules) (cc)
 
 pub returns : goal.returns
 returns c = spanning-end _ _ _ _ c.loop-i.invariant (search rules)
