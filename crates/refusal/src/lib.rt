@@ -1,0 +1,52 @@
+// The refusals (document 01, section 8), each with its number.
+#![tactic(auto)]
+
+ghost use Rattle.std.specs.Prelude.{◌≡◌};
+ghost use Rattle.refusal.specs.Numbers.{number};
+
+// Why a call is refused.
+#[derive(Clone, Copy, Debug, PartialEq, Eq)]
+pub enum Refusal {
+    // The work buffer is too short.
+    Work,
+    // The bundle breaks its layout.
+    Bundle,
+    // The sheet breaks its layout.
+    Sheet,
+    // The path or folder rule is broken.
+    Path,
+    // There is no such file.
+    File,
+    // A text or an opened file has a byte from 128.
+    Byte,
+    // A seventh dictionary, include or import level.
+    Level,
+    // A raw round moves by nothing.
+    Stalled,
+    // A sheet, a value or a growing dictionary is over L.
+    Limit,
+    // The middle buffer is too short.
+    Middle,
+    // The output buffer is too short.
+    Output,
+}
+
+impl From<Refusal> for u8 {
+    ghost from_gives = { λ refusal n. n ≡ number refusal };
+
+    fn from(refusal: Refusal) -> u8 {
+        match refusal {
+            Refusal::Work => 1,
+            Refusal::Bundle => 2,
+            Refusal::Sheet => 3,
+            Refusal::Path => 4,
+            Refusal::File => 5,
+            Refusal::Byte => 6,
+            Refusal::Level => 7,
+            Refusal::Stalled => 8,
+            Refusal::Limit => 9,
+            Refusal::Middle => 10,
+            Refusal::Output => 11,
+        }
+    }
+}
