@@ -10,7 +10,7 @@ use Rattle.rules.proofs.Laws.Sheet.{set-good}
 use Rattle.sheet.specs.Find.{IsSheet}
 use Rattle.sheet.specs.Find.{HasRecords}
 use Rattle.binding.specs.Write.{BindsTo, Leaves}
-use Rattle.binding.specs.declared.Bound.TheVariants.{Over, Length}
+use Rattle.std.specs.Prelude.{Some, None}
 
 -- A sheet can be bound in.
 pub to-bind : {b : List ℕ} → IsSheet b → HasRecords b
@@ -18,22 +18,22 @@ to-bind s = record { r = s.r; bytes = s.bytes }
 
 -- What a binding leaves.
 module _ (c : List ℕ) (l : ℕ) (r : Records) where
-  pub leaves-bytes : (m : ℕ) → Leaves c l (encode r) (Length m) → (m ≤ l) × (take m c ≡ encode r) × (m ≡ sheet_length r)
+  pub leaves-bytes : (m : ℕ) → Leaves c l (encode r) (Some m) → (m ≤ l) × (take m c ≡ encode r) × (m ≡ sheet_length r)
   unfolding Leaves sheet_length
   leaves-bytes m g = (g.0, g.2, g.1)
 
-  pub leaves-over : Leaves c l (encode r) Over → l < sheet_length r
+  pub leaves-over : Leaves c l (encode r) None → l < sheet_length r
   unfolding Leaves sheet_length
   leaves-over g = g
 
 module _ {b : List ℕ} {n l : ℕ} {name : List ℕ} {v : Value} {c : List ℕ} (r : Records) (e : take n b ≡ encode r) where
-  pub bound-bytes : {m : ℕ} → BindsTo b n l name v c (Length m) → (m ≤ l) × (take m c ≡ encode (set r name v)) × (m ≡ sheet_length (set r name v))
+  pub bound-bytes : {m : ℕ} → BindsTo b n l name v c (Some m) → (m ≤ l) × (take m c ≡ encode (set r name v)) × (m ≡ sheet_length (set r name v))
   bound-bytes {m} w = leaves-bytes c l (set r name v) m (w.leaves r e)
 
-  pub over-long : BindsTo b n l name v c Over → l < sheet_length (set r name v)
+  pub over-long : BindsTo b n l name v c None → l < sheet_length (set r name v)
   over-long w = leaves-over c l (set r name v) (w.leaves r e)
 
-  pub bound-sheet : {m : ℕ} → good_records r word 6 ≡ true → all word name ≡ true → good_value v 6 ≡ true → BindsTo b n l name v c (Length m) → IsSheet (take m c)
+  pub bound-sheet : {m : ℕ} → good_records r word 6 ≡ true → all word name ≡ true → good_value v 6 ≡ true → BindsTo b n l name v c (Some m) → IsSheet (take m c)
   bound-sheet g a o w = record { r = set r name v; bytes = (bound-bytes w).1; good = set-good r word 6 name v g a o }
 
 -- The first n bytes of c are those of the good records s.

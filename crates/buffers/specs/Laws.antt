@@ -1,13 +1,11 @@
 -- Laws of the writer: texts put one after the other, and when all has fitted.
-use Rattle.std.specs.Prelude.{◌≡◌, refl, List, [], ◌∷◌, ◌++◌, ℕ, zero, suc, ◌+◌, ◌-◌, ◌≤◌, ◌<◌, min, length, take, drop, get_or, set}
-use Rattle.std.proofs.Common.{sym, ap, ◌∙◌, append-nil, add-one, add-zero, length-append, length-take, take-append-drop, drop_of_length-le, drop-set-lt, length-take-le, take-suc, take_all}
+use Rattle.std.specs.Prelude.{◌≡◌, refl, List, [], ◌∷◌, ◌++◌, ℕ, suc, ◌+◌, ◌-◌, ◌≤◌, ◌<◌, min, length, take, drop, set}
+use Rattle.std.proofs.Common.{sym, ap, ◌∙◌, append-nil, add-zero, length-append, length-take, take-append-drop, drop_of_length-le, drop-set-lt, length-take-le, take_all}
 use native.Mathlib.Omega.{arith}
-use Rattle.std.proofs.Math.Nat.{sub-zero, suc-sub-suc}
 use Rattle.std.proofs.Math.Decide.{dec_le, dec_lt}
 use Rattle.std.proofs.lemmas.List.Edits.{sets, sets-eq}
 use Rattle.std.proofs.Math.Seq.{set_out, take-set-lt, length-sets, take-append_seam}
 use Rattle.std.proofs.lemmas.List.{set_comm, take-set-le}
-use Rattle.rules.specs.Calls.{zeros, padded}
 use Rattle.buffers.specs.Put.{after, Writer, Put}
 
 -- PLACES.
@@ -68,13 +66,6 @@ sets-before b p (x ∷ xs) w =
 pub take-sets : (b : List ℕ) (p : ℕ) (v : List ℕ) (k : ℕ) → k ≤ p → take k (sets b p v) ≡ take k b
 take-sets b p [] k h = refl
 take-sets b p (x ∷ xs) k h = take-sets (set b p x) (suc p) xs k (omega arith) ∙ take-set-le k b p x h
-
--- One byte more of a text.
-pub sets_more : (b : List ℕ) (p : ℕ) (t : List ℕ) (i : ℕ) (c : List ℕ) → c ≡ sets b p (take i t) → i < length t → set c (p + i) (get_or t i 0) ≡ sets b p (take (i + 1) t)
-sets_more b p t i c q h =
-    let l : length (take i t) ≡ i = length-take-le i t (omega arith) in
-    let e : sets (sets b p (take i t)) (p + length (take i t)) (get_or t i 0 ∷ []) ≡ sets b p (take i t ++ (get_or t i 0 ∷ [])) = sets-append b p (take i t) (get_or t i 0 ∷ []) in
-    rw (q, add-one, take-suc t i 0 h) (rw l at e)
 
 -- As many bytes as the buffer takes are all.
 pub sets_clipped : (b : List ℕ) (p : ℕ) (t : List ℕ) (i : ℕ) → min (length t) (length b - p) ≤ i → i ≤ length t → sets b p (take i t) ≡ sets b p t
@@ -140,34 +131,3 @@ module _ {room : ℕ} {b : List ℕ} {p : ℕ} {v c : List ℕ} {q : ℕ} (s : P
       go (no k) =
           sets-out c q w (omega (arith, put-length)) ∙ s.stored
           ∙ sym (sets-out (sets b p v) (p + length v) w (omega (arith, length-sets b p v, put-not (omega arith)))) ∙ sets-append b p v w
-
--- ZEROS.
-unfoldable pub zero_from : ℕ → List ℕ → List ℕ
-zero_from zero [] = []
-zero_from zero (x ∷ l) = 0 ∷ zero_from zero l
-zero_from (suc k) [] = []
-zero_from (suc k) (x ∷ l) = x ∷ zero_from k l
-
-zero-suc : (i : ℕ) (l : List ℕ) → zero_from (suc i) (set l i 0) ≡ zero_from i l
-unfolding zero_from
-zero-suc zero [] = refl
-zero-suc zero (x ∷ l) = refl
-zero-suc (suc i) [] = refl
-zero-suc (suc i) (x ∷ l) = ap (λ r. x ∷ r) (zero-suc i l)
-
-pub zero-step : (i : ℕ) (l : List ℕ) → zero_from (i + 1) (set l i 0) ≡ zero_from i l
-zero-step i l = rw add-one (zero-suc i l)
-
-pub zero-end : (i : ℕ) (l : List ℕ) → length l ≤ i → l ≡ zero_from i l
-unfolding zero_from
-zero-end zero [] h = refl
-zero-end zero (x ∷ l) h = absurd (omega arith)
-zero-end (suc i) [] h = refl
-zero-end (suc i) (x ∷ l) h = ap (λ r. x ∷ r) (zero-end i l (omega arith))
-
-pub zero-padded : (k : ℕ) (l : List ℕ) → k ≤ length l → zero_from k l ≡ padded (length l) (take k l)
-unfolding zero_from padded zeros
-zero-padded zero [] h = refl
-zero-padded zero (x ∷ l) h = rw sub-zero (ap (λ r. 0 ∷ r) (zero-padded zero l (omega arith) ∙ rw sub-zero refl))
-zero-padded (suc k) [] h = absurd (omega arith)
-zero-padded (suc k) (x ∷ l) h = rw suc-sub-suc (ap (λ r. x ∷ r) (zero-padded k l (omega arith)))

@@ -1,5 +1,5 @@
 pub mod Put
 pub mod Laws
-pub mod Move
 pub mod Emits
 pub mod Copies
+pub mod Wrote

@@ -4,6 +4,9 @@
 
 ghost use Rattle.std.specs.Prelude.{◌≡◌, length};
 ghost use Rattle.rules.specs.Calls.{resolve_of, resolve_includes_of, test_load_of, preprocess_typst_of, parse_definitions_of, pass_of, find_file_of};
+ghost use Rattle.builder.specs.Texts.{IsTextOf};
+
+use refusal::Refusal;
 
 // A lookup's answer. Kind: 0 missing, 1 none, 2 text, 3 dictionary. Of a text, its length in the output buffer; else 0.
 #[repr(C)]
@@ -20,6 +23,20 @@ pub struct Resolved {
 pub struct Text {
     pub number: u8,
     pub len: usize,
+}
+
+impl From<Result<usize, Refusal>> for Text {
+    ghost from_gives = { IsTextOf };
+
+    fn from(end: Result<usize, Refusal>) -> Text {
+        match end {
+            Ok(len) => Text { number: 0, len },
+            Err(refusal) => Text {
+                number: refusal.into(),
+                len: 0,
+            },
+        }
+    }
 }
 
 // What a text in a sheet is looked up as: 3, 6, 11 (E1).
@@ -52,12 +69,9 @@ pub fn resolve_includes(bundle: &[u8], folder: &[u8], text: &[u8], out: &mut [u8
 pub fn test_load(seed: u32, definitions: bool, out: &mut [u8]) -> Text
     ensures { test_load_of seed definitions (length out.old) ≡ record { number = result.number; len = result.len; out = out.new } }
 {
-    let load = test_load::test_load(seed, definitions, out);
+    let load = Text::from(test_load::test_load(seed, definitions, out));
     buffers::clear_from(out, load.len);
-    Text {
-        number: load.number,
-        len: load.len,
-    }
+    load
 }
 
 // An expansion's answer: the lengths of the text in the output buffer and of the sheet that is left.

@@ -1,6 +1,7 @@
 -- Looking a path up in a bundle.
 use Rattle.std.proofs.Math.Path.{◌≡◌, sym, ap}
-use Rattle.std.specs.Prelude.{refl, Bool, true, false, ◌&&◌, ◌||◌, ℕ, suc, ◌+◌, ◌-◌, ◌*◌, ◌≤◌, ◌<◌, eqb, leb, take, get_or}
+use Rattle.std.specs.Prelude.{Option as Maybe, Some, None, IsSome, refl, Bool, true, false, ◌&&◌, ◌||◌, ℕ, suc, ◌+◌, ◌-◌, ◌*◌, ◌≤◌, ◌<◌, eqb, leb, get_or}
+use Rattle.std.proofs.lemmas.Bool.{lt-leb}
 use Rattle.std.proofs.Common.{◌∙◌, true≢false, eq-eqb, eqb-true}
 use mathlib.Core.List.{List, [], ◌∷◌, ◌++◌}
 use Rattle.std.proofs.Math.Bool.{and_assoc, or_assoc, or-false}
@@ -17,11 +18,12 @@ use Rattle.rules.specs.Files.{File, absent, folder, file, entry_at, is_folder_of
 use Rattle.rules.specs.Answer.{is_some}
 use Rattle.rules.proofs.Laws.Bool.{and_l, and_r}
 use Rattle.rules.proofs.Laws.Found.{some_same}
-use Rattle.scan.specs.Sets.{Starts, Sees, byte_is}
-use Rattle.bundle_entries.specs.Entries.{entry_of, head_answer, HeadAt}
+use Rattle.scan.specs.Sets.{part, Starts, Sees, byte_is}
+use Rattle.paths.specs.Joined.{Joins}
+use Rattle.paths.specs.declared.path.Path.{Path}
+use Rattle.bundle_entries.specs.Entries.{entry_of, path_at, Within, IsHead, HeadAt}
 use Rattle.bundle_entries.specs.Whole.{closing, finish, bundle-rest, check-short}
 use Rattle.bundle_entries.specs.declared.Head.{Head}
-use Rattle.bundle.specs.declared.near.Relation.{Relation}
 use Rattle.bundle.specs.declared.Found.{Found}
 use Rattle.bundle.specs.declared.Found.TheVariants.{Absent, Folder, File as At}
 
@@ -39,34 +41,25 @@ entries-some b es e = rw e
 
 -- What was found, of an entry and of a folder; as sections 4 to 7 see it.
 unfoldable pub located : Option Entry → Bool → Found
-located (some e) f = At e.start (length e.content)
+located (some e) f = At (record { from = e.start; to = e.start + length e.content })
 located none true = Folder
 located none false = Absent
 
 unfoldable pub file_at : List ℕ → Found → File
 file_at b Absent = absent
 file_at b Folder = folder
-file_at b (At s n) = file (take n (drop s b))
+file_at b (At r) = file (part b r.from r.to)
 
-abbrev pub end_of : Found → ℕ
-end_of Absent = 0
-end_of Folder = 0
-end_of (At s n) = s + n
+-- A file's content lies in the bundle.
+abbrev pub Inside : List ℕ → Found → Type 0
+Inside b Absent = Unit {0}
+Inside b Folder = Unit {0}
+Inside b (At r) = Within b r
 
 pub record Finds (b : List ℕ) (es : List Entry) (p : List ℕ) (r : Found) : Type 0 where
   pub says : r ≡ located (entry_at es p) (is_folder_of es p)
   pub seen : view es p ≡ file_at b r
-  pub inside : end_of r ≤ length b
-
--- An entry whose path can be read.
-pub record Reachable (b : List ℕ) (h : Head) : Type 0 where
-  pub folders : h.folder.start + h.folder.len ≤ length b
-  pub names : h.name.start + h.name.len ≤ length b
-  pub short : leb (length (entry_of b h).path) 255 ≡ true
-
-pub record Near (b : List ℕ) (h : Head) (p : List ℕ) (r : Relation) : Type 0 where
-  pub is : r.same ≡ same (entry_of b h).path p
-  pub under : r.below ≡ above p (entry_of b h).path
+  pub inside : Inside b r
 
 -- TWO PATHS.
 eqb_comm : (a b : ℕ) → eqb a b ≡ eqb b a
@@ -96,9 +89,6 @@ module _ (p q : List ℕ) {r : Bool} (s : Starts p q 0 r) where
   pub above_at : r ≡ true → {t : Bool} → Sees (byte_is 47) q (length p) t → t ≡ above p q
   unfolding above
   above_at e g = sym (prefix-slash p q ∙ rw (s.says ∙ e, g.says))
-
-pub near_of : (b : List ℕ) (h : Head) (p t : List ℕ) → t ≡ (entry_of b h).path → {a c : Bool} → a ≡ same t p → c ≡ above p t → Near b h p (record { same = a; below = c })
-near_of b h p t e f g = record { is = rw e at f; under = rw e at g }
 
 -- THE SEARCH has n entries to read from i on; f: is a path below p among those before.
 pub record Finding (b p : List ℕ) (n i : ℕ) (f : Bool) : Type 0 where
@@ -177,33 +167,31 @@ cut p t n {fs} {u} h = at (p t) refl
     at none q = none-some (rw q at h)
     at (some r) q = at2 r.0 r.1 q (times n p r.1) refl
 
--- An entry of the search.
-pub record Ahead (b p : List ℕ) (n : ℕ) (f : Bool) (h : Head) : Type 0 where
+-- The entry of the search that stands at i, if one is left.
+pub is-there : {b p : List ℕ} {n i : ℕ} {f : Bool} → Finding b p n i f → (m : ℕ) → n ≡ suc m → (v : Maybe Head) → HeadAt b (entry (length b)) i v → IsSome v
+is-there F m z (Some h) H = refl
+is-there {b} {p} {n} {i} F m z None H = none-some (sym H ∙ (cut (entry (length b)) (drop i b) m (rw z at F.rest)).one)
+
+pub record Ahead (b p : List ℕ) (m : ℕ) (f : Bool) (h : Head) : Type 0 where
   pub later : List Entry
   pub behind : List ℕ
-  pub rest : times (n - 1) (entry (length b)) (drop (h.content.start + h.content.len) b) ≡ some (later, behind)
+  pub rest : times m (entry (length b)) (drop h.content.to b) ≡ some (later, behind)
   pub path : is_path (entry_of b h).path ≡ true
   pub paths : all is_path (paths_of later) ≡ true
   pub asked : entry_at (entries_of b) p ≡ entry_at (entry_of b h ∷ later) p
   pub folders : is_folder_of (entries_of b) p ≡ (f || is_folder_of (entry_of b h ∷ later) p)
 
-head_inv : (b : List ℕ) (h : Head) (c : Bool) {e : Entry} {m : List ℕ} → head_answer b c h ≡ some (e, m) → (e ≡ entry_of b h) × (m ≡ drop (h.content.start + h.content.len) b)
-unfolding head_answer
-head_inv b h true {e} {m} q = let k = some_same q in (sym (ap (λ y. y.0) k), sym (ap (λ y. y.1) k))
-head_inv b h false q = none-some q
-
-pub ahead : {b p : List ℕ} {n i : ℕ} {f : Bool} → Finding b p n i f → 0 < n → {h : Head} → HeadAt b (entry (length b)) i h → Ahead b p n f h
+pub ahead : {b p : List ℕ} {n i : ℕ} {f : Bool} → Finding b p n i f → {m : ℕ} → n ≡ suc m → {h : Head} → IsHead b (entry (length b)) i h → Ahead b p m f h
 unfolding paths_of all
-ahead {b} {p} {n} {i} {f} F k {h} H =
-    let z : n ≡ suc (n - 1) = omega arith in
-    let c = cut (entry (length b)) (drop i b) (n - 1) (rw z at F.rest) in
-    let x = head_inv b h h.ok (sym H.reads ∙ c.one) in
-    let s : F.more ≡ entry_of b h ∷ c.later = c.split ∙ ap (λ y. y ∷ c.later) x.0 in
+ahead {b} {p} {n} {i} {f} F {m} z {h} H =
+    let c = cut (entry (length b)) (drop i b) m (rw z at F.rest) in
+    let x = some_same (sym H.reads ∙ c.one) in
+    let s : F.more ≡ entry_of b h ∷ c.later = c.split ∙ ap (λ y. y ∷ c.later) (sym (ap (λ y. y.0) x)) in
     let a : all is_path (paths_of (entry_of b h ∷ c.later)) ≡ true = ap (λ y. all is_path (paths_of y)) (sym s) ∙ F.paths in
     record {
       later = c.later;
       behind = F.behind;
-      rest = ap (times (n - 1) (entry (length b))) (sym x.1) ∙ c.rest;
+      rest = ap (times m (entry (length b))) (ap (λ y. y.1) x) ∙ c.rest;
       path = and_l (is_path (entry_of b h).path) _ a;
       paths = and_r (is_path (entry_of b h).path) _ a;
       asked = F.asked ∙ ap (λ y. entry_at y p) s;
@@ -222,28 +210,34 @@ folder-cons e es p = at (above p e.path) refl
     at true q = rw q
     at false q = rw q
 
-module _ {b p : List ℕ} {n : ℕ} {f : Bool} {h : Head} (A : Ahead b p n f h) {i : ℕ} (H : HeadAt b (entry (length b)) i h) where
-  pub reachable : Reachable b h
-  reachable = record { folders = H.folders; names = H.names; short = path-short _ A.path }
+module _ {b p : List ℕ} {m : ℕ} {f : Bool} {h : Head} (A : Ahead b p m f h) where
+  path-here : path_at b h ≡ (entry_of b h).path
+  unfolding entry_of
+  path-here = refl
 
-  module _ {r : Relation} (N : Near b h p r) where
-    pub finding-same : r.same ≡ true → Finds b (entries_of b) p (At h.content.start h.content.len)
+  pub reachable : (v : Maybe Path) → Joins (part b h.folder.from h.folder.to) (part b h.name.from h.name.to) v → IsSome v
+  reachable (Some q) J = refl
+  reachable None J = absurd (true≢false (sym (path-short _ A.path) ∙ lt-leb _ 255 (rw path-here at J)))
+
+  module _ {i : ℕ} (H : IsHead b (entry (length b)) i h) {t : List ℕ} (T : t ≡ path_at b h) where
+    pub finding-same : {c : Bool} → c ≡ same t p → c ≡ true → Finds b (entries_of b) p (At h.content)
     unfolding located file_at view file_of entry_of
-    finding-same e =
-        let t : h.content.len ≤ length (drop h.content.start b) = omega (arith, H.inside, length-drop h.content.start b) in
-        let l : length (take h.content.len (drop h.content.start b)) ≡ h.content.len = length-take-le h.content.len (drop h.content.start b) t in
-        let k : entry_at (entries_of b) p ≡ some (entry_of b h) = A.asked ∙ asked-yes (entry_of b h) A.later p (sym N.is ∙ e) in
-        record { says = rw (k, l); seen = rw k; inside = H.inside }
+    finding-same {c} N e =
+        let y : h.content.to - h.content.from ≤ length (drop h.content.from b) = omega (arith, H.content.order, H.content.inside, length-drop h.content.from b) in
+        let l : length (part b h.content.from h.content.to) ≡ h.content.to - h.content.from = length-take-le (h.content.to - h.content.from) (drop h.content.from b) y in
+        let z : h.content.from + (h.content.to - h.content.from) ≡ h.content.to = omega (arith, H.content.order) in
+        let k : entry_at (entries_of b) p ≡ some (entry_of b h) = A.asked ∙ asked-yes (entry_of b h) A.later p (rw (T ∙ path-here, e) at (sym N)) in
+        record { says = rw (k, l, z); seen = rw k; inside = H.content }
 
-    pub finding-on : r.same ≡ false → Finding b p (n - 1) (h.content.start + h.content.len) (f || r.below)
-    finding-on e = record {
+    pub finding-on : {c d : Bool} → c ≡ same t p → c ≡ false → d ≡ above p t → Finding b p m h.content.to (f || d)
+    finding-on {c} {d} N e U = record {
       more = A.later;
       behind = A.behind;
-      place = H.inside;
+      place = H.content.inside;
       rest = A.rest;
       paths = A.paths;
-      asked = A.asked ∙ asked-no (entry_of b h) A.later p (sym N.is ∙ e);
-      folders = A.folders ∙ ap (λ z. f || z) (folder-cons (entry_of b h) A.later p) ∙ rw (sym N.under) (sym (or_assoc f r.below (is_folder_of A.later p)));
+      asked = A.asked ∙ asked-no (entry_of b h) A.later p (rw (T ∙ path-here, e) at (sym N));
+      folders = A.folders ∙ ap (λ z. f || z) (folder-cons (entry_of b h) A.later p) ∙ rw (sym (rw (T ∙ path-here) at U)) (sym (or_assoc f d (is_folder_of A.later p)));
     }
 
 module _ {b p : List ℕ} {n i : ℕ} {f : Bool} (F : Finding b p n i f) (k : n ≤ 0) where

@@ -1,9 +1,10 @@
 -- Opening a file, and the search for `CITATION.cff`.
-use Rattle.std.specs.Prelude.{◌≡◌, refl, Bool, true, false, leb, length, drop}
+use Rattle.std.specs.Prelude.{Result, Ok, Err, ◌≡◌, refl, Bool, true, false, length}
 use Rattle.std.proofs.Math.Path.{sym}
-use Rattle.std.proofs.Common.{ap, ◌∙◌, true≢false, length-take-le, take-take, leb-false}
+use Rattle.std.proofs.lemmas.Bool.{lt-leb}
+use Rattle.std.proofs.Common.{ap, ◌∙◌, true≢false, length-take-le, take-take, le-leb}
 use mathlib.Core.List.{List, [], ◌∷◌}
-use Prim.Native.Nat.{ℕ, zero, suc, ◌+◌, ◌-◌, ◌≤◌, ◌<◌}
+use Prim.Native.Nat.{ℕ, zero, suc, ◌-◌, ◌≤◌, ◌<◌}
 use native.Mathlib.Omega.{arith}
 use Rattle.std.proofs.Math.ListN.{take}
 use Rattle.std.proofs.Math.Seq.{take-length}
@@ -16,100 +17,95 @@ use Rattle.paths.specs.Paths.{path-long, Parent}
 use Rattle.bundle.specs.Find.{Finds, file_at}
 use Rattle.bundle.specs.declared.Found.{Found}
 use Rattle.bundle.specs.declared.Found.TheVariants.{Absent, Folder, File as At}
-use Rattle.bundle.specs.declared.Opened.{Opened}
-use Rattle.bundle.specs.declared.Opened.TheVariants.{Refused, Text}
+use Rattle.scan.specs.declared.Range.{Range}
+use Rattle.bundle_entries.specs.Entries.{Within}
+use Rattle.scan.specs.Sets.{part}
+use Rattle.refusal.specs.Numbers.{number}
+use Rattle.refusal.specs.declared.Refusal.{Refusal}
 
--- 01's number and bytes for what was opened.
-unfoldable pub answer_of : List ℕ → Opened → Answer (List ℕ)
-answer_of b (Refused k) = refused k
-answer_of b (Text s n) = accepted (take n (drop s b))
+-- A part of the bundle is the file that was asked for.
+pub record IsOpened (b : List ℕ) (a : Answer (List ℕ)) (r : Range) : Type 0 where
+  pub says : a ≡ accepted (part b r.from r.to)
+  pub within : Within b r
 
-abbrev pub stop : Opened → ℕ
-stop (Refused k) = 0
-stop (Text s n) = s + n
-
-pub record Opens (b : List ℕ) (a : Answer (List ℕ)) (r : Opened) : Type 0 where
-  pub says : a ≡ answer_of b r
-  pub inside : stop r ≤ length b
+-- The file that was asked for, or 01's number.
+abbrev pub Opens : List ℕ → Answer (List ℕ) → Result Range Refusal → Type 0
+Opens b a (Ok r) = IsOpened b a r
+Opens b a (Err e) = a ≡ refused (number e)
 
 -- FETCHING: 4, then 5.
 module _ (b : List ℕ) (es : List Entry) (p : List ℕ) {c : Bool} (e : c ≡ is_path p) where
-  pub fetch-path : c ≡ false → Opens b (fetch (view es) p) (Refused 4)
-  unfolding fetch check ◌>>◌ answer_of
-  fetch-path h = record { says = rw (sym e ∙ h); inside = omega arith }
+  pub fetch-path : c ≡ false → fetch (view es) p ≡ refused 4
+  unfolding fetch check ◌>>◌
+  fetch-path h = rw (sym e ∙ h)
 
   module _ (h : c ≡ true) where
     fetch-found : {f : Found} → Finds b es p f → fetch (view es) p ≡ content_of (file_at b f)
     unfolding fetch check ◌>>◌
     fetch-found {f} k = rw (sym e ∙ h, k.seen)
 
-    pub fetch-absent : {f : Found} → Finds b es p f → f ≡ Absent → Opens b (fetch (view es) p) (Refused 5)
-    unfolding content_of file_at answer_of
-    fetch-absent k q = record { says = fetch-found k ∙ rw q; inside = omega arith }
+    pub fetch-absent : Finds b es p Absent → fetch (view es) p ≡ refused 5
+    unfolding content_of file_at
+    fetch-absent k = fetch-found k
 
-    pub fetch-folder : {f : Found} → Finds b es p f → f ≡ Folder → Opens b (fetch (view es) p) (Refused 5)
-    unfolding content_of file_at answer_of
-    fetch-folder k q = record { says = fetch-found k ∙ rw q; inside = omega arith }
+    pub fetch-folder : Finds b es p Folder → fetch (view es) p ≡ refused 5
+    unfolding content_of file_at
+    fetch-folder k = fetch-found k
 
-    pub fetch-file : {f : Found} → Finds b es p f → {s n : ℕ} → f ≡ At s n → Opens b (fetch (view es) p) (Text s n)
-    unfolding content_of file_at answer_of
-    fetch-file k q = record { says = fetch-found k ∙ rw q; inside = rw q at k.inside }
+    pub fetch-file : {r : Range} → Finds b es p (At r) → IsOpened b (fetch (view es) p) r
+    unfolding content_of file_at
+    fetch-file k = record { says = fetch-found k; within = k.inside }
 
 -- A TEXT: 6.
-module _ (b : List ℕ) (s n : ℕ) {r : Bool} (h : s + n ≤ length b) (k : r ≡ all ascii (take (s + n - s) (drop s b))) where
-  part : all ascii (take n (drop s b)) ≡ r
-  part = let z : s + n - s ≡ n = omega arith in sym (rw z at k)
+module _ (b : List ℕ) (r : Range) {c : Bool} (k : c ≡ all ascii (part b r.from r.to)) where
+  pub plain-yes : Within b r → c ≡ true → IsOpened b (plain (part b r.from r.to)) r
+  unfolding plain check ◌>>◌
+  plain-yes h e = record { says = rw (sym k ∙ e); within = h }
 
-  pub plain-yes : r ≡ true → Opens b (plain (take n (drop s b))) (Text s n)
-  unfolding plain check ◌>>◌ answer_of
-  plain-yes e = record { says = rw (part ∙ e); inside = h }
-
-  pub plain-no : r ≡ false → Opens b (plain (take n (drop s b))) (Refused 6)
-  unfolding plain check ◌>>◌ answer_of
-  plain-no e = record { says = rw (part ∙ e); inside = omega arith }
-
-pub text-inside : {b : List ℕ} {a : Answer (List ℕ)} {f : Opened} → Opens b a f → {s n : ℕ} → f ≡ Text s n → s + n ≤ length b
-text-inside k q = rw q at k.inside
+  pub plain-no : c ≡ false → plain (part b r.from r.to) ≡ refused 6
+  unfolding plain check ◌>>◌
+  plain-no e = rw (sym k ∙ e)
 
 -- OPENING: a fetched file's text.
 module _ (b p : List ℕ) (v : View) where
-  pub open_refused : {f : Opened} → Opens b (fetch v p) f → {j : ℕ} → f ≡ Refused j → Opens b (opened v p) (Refused j)
-  unfolding opened ◌>>=◌ answer_of
-  open_refused k q = record { says = rw (k.says, q); inside = omega arith }
+  pub open_refused : {k : ℕ} → fetch v p ≡ refused k → opened v p ≡ refused k
+  unfolding opened ◌>>=◌
+  open_refused e = rw e
 
-  pub open_text : {f : Opened} → Opens b (fetch v p) f → {s n : ℕ} → f ≡ Text s n → {r : Opened} → Opens b (plain (take n (drop s b))) r → Opens b (opened v p) r
-  unfolding opened ◌>>=◌ answer_of
-  open_text k q o = record { says = rw (k.says, q) o.says; inside = o.inside }
+  pub open_text : {r : Range} → IsOpened b (fetch v p) r → (s : Result Range Refusal) → Opens b (plain (part b r.from r.to)) s → Opens b (opened v p) s
+  unfolding opened ◌>>=◌
+  open_text k (Ok s) o = record { says = rw k.says o.says; within = o.within }
+  open_text k (Err e) o = rw k.says o
 
 -- A path that is too long: 4.
-pub long-fetch : (v : View) (p : List ℕ) → leb (length p) 255 ≡ false → fetch v p ≡ refused 4
+pub long-fetch : (v : View) (p : List ℕ) → 255 < length p → fetch v p ≡ refused 4
 unfolding fetch check ◌>>◌
-long-fetch v p h = rw (sym (path-long p (leb-false _ 255 h))) refl
+long-fetch v p h = rw (sym (path-long p h)) refl
 
-pub long-opened : (b : List ℕ) (v : View) (p : List ℕ) → leb (length p) 255 ≡ false → Opens b (opened v p) (Refused 4)
-unfolding opened ◌>>=◌ answer_of
-long-opened b v p h = record { says = rw (long-fetch v p h) refl; inside = omega arith }
+pub long-opened : (v : View) (p : List ℕ) → 255 < length p → opened v p ≡ refused 4
+unfolding opened ◌>>=◌
+long-opened v p h = rw (long-fetch v p h) refl
 
 -- CITATION.cff.
 abbrev pub there : Found → Bool
 there Absent = false
 there Folder = true
-there (At s n) = true
+there (At r) = true
 
 exists-at : (b : List ℕ) (f : Found) → exists (file_at b f) ≡ there f
 unfolding exists file_at
 exists-at b Absent = refl
 exists-at b Folder = refl
-exists-at b (At s n) = refl
+exists-at b (At r) = refl
 
-module _ (b : List ℕ) (es : List Entry) (g : List ℕ) {c : Bool} (e : c ≡ leb (length (join g (bytes "CITATION.cff"))) 255) where
-  pub citation_long : c ≡ false → false ≡ has_citation (view es) g
+module _ (b : List ℕ) (es : List Entry) (g : List ℕ) where
+  pub citation_long : 255 < length (join g (bytes "CITATION.cff")) → false ≡ has_citation (view es) g
   unfolding has_citation
-  citation_long h = rw (sym e ∙ h)
+  citation_long h = rw (lt-leb _ 255 h)
 
-  pub citation_asked : c ≡ true → (p : List ℕ) → p ≡ join g (bytes "CITATION.cff") → {f : Found} → Finds b es p f → {r : Bool} → r ≡ there f → r ≡ has_citation (view es) g
+  pub citation_asked : {p : List ℕ} → length p ≤ 255 → p ≡ join g (bytes "CITATION.cff") → {f : Found} → Finds b es p f → {r : Bool} → r ≡ there f → r ≡ has_citation (view es) g
   unfolding has_citation
-  citation_asked h p q {f} k t = t ∙ sym (rw (sym e ∙ h, sym q, k.seen) (exists-at b f))
+  citation_asked {p} h q {f} k t = t ∙ sym (rw (sym q, le-leb (length p) 255 h, k.seen) (exists-at b f))
 
 -- UPWARD. A start of the folder d, of r bytes.
 pub record Root (d g : List ℕ) (r : ℕ) : Type 0 where

@@ -1,24 +1,35 @@
 // The bundle (document 01, section 1): its files and folders. This is the only crate that asks a bundle for a path.
 #![tactic(auto)]
 
-ghost use Rattle.std.specs.Prelude.{◌≡◌, true, ◌+◌, ◌≤◌, length, take, drop};
-ghost use Rattle.rules.specs.Bundle.{bundle_of};
+ghost use Rattle.std.specs.Prelude.{◌≡◌, true};
+ghost use Rattle.rules.specs.Bundle.{above, bundle_of};
 ghost use Rattle.rules.specs.Answer.{is_some};
 ghost use Rattle.rules.specs.Files.{view, fetch, plain, opened, has_citation, project_root};
+ghost use Rattle.scan.specs.Sets.{part};
+ghost use Rattle.bundle_entries.specs.Entries.{Within};
 ghost use Rattle.bundle.specs.Find.{Finds, entries_of};
 ghost use Rattle.bundle.specs.Open.{Opens, there, Root};
 
-mod near;
+use bundle_entries::{entry_at, path_of, word};
+use paths::{Range, is_path, join, parent};
+use refusal::Refusal;
 
-use bundle_entries::{entry_at, word};
-use paths::{is_path, join, parent};
-
-// What a path is in a bundle; a file's content stands at `start` in the bundle.
+// What a path is in a bundle; a file's content is a part of the bundle.
 #[derive(Clone, Copy)]
 pub enum Found {
     Absent,
     Folder,
-    File { start: usize, len: usize },
+    File(Range),
+}
+
+// Does p, followed by `/`, begin q?
+fn above(p: &[u8], q: &[u8]) -> bool
+    ensures { result ≡ above p.now q.now }
+{
+    if !scan::starts_with(q, 0, p) {
+        return false;
+    }
+    scan::at(q, p.len(), b'/')
 }
 
 // Looks a path up in a bundle that keeps its layout.
@@ -26,21 +37,17 @@ pub fn find(b: &[u8], path: &[u8]) -> Found
     requires { is_some (bundle_of b.now) ≡ true }
     ensures { Finds b.now (entries_of b.now) path.now result }
 {
-    let mut remaining = word(b, 0);
     let mut at: usize = 2;
     let mut folder = false;
-    while 0 < remaining {
-        let h = entry_at(b, at);
-        let n = near::relate(b, h, path);
-        if n.same {
-            return Found::File {
-                start: h.content.start,
-                len: h.content.len,
-            };
+    for done in 0..word(b, 0) {
+        let entry = entry_at(b, at).unwrap();
+        let own = path_of(b, entry).unwrap();
+        let here = own.as_bytes();
+        if scan::same(here, path) {
+            return Found::File(entry.content);
         }
-        folder = folder | n.below;
-        at = h.content.start + h.content.len;
-        remaining -= 1;
+        folder |= above(path, here);
+        at = entry.content.to;
     }
     if folder {
         return Found::Folder;
@@ -48,69 +55,46 @@ pub fn find(b: &[u8], path: &[u8]) -> Found
     Found::Absent
 }
 
-// A file that was asked for: the number of a refusal, or where its bytes stand in the bundle.
-#[derive(Clone, Copy)]
-pub enum Opened {
-    Refused(u8),
-    Text { start: usize, len: usize },
-}
-
 // A file's bytes: 4 where the path rule is broken, 5 where it is absent or a folder.
-pub fn fetch(b: &[u8], path: &[u8]) -> Opened
+pub fn fetch(b: &[u8], path: &[u8]) -> Result<Range, Refusal>
     requires { is_some (bundle_of b.now) ≡ true }
     ensures { Opens b.now (fetch (view (entries_of b.now)) path.now) result }
 {
     if !is_path(path) {
-        return Opened::Refused(4);
+        return Err(Refusal::Path);
     }
-    let f = find(b, path);
-    match f {
-        Found::Absent => Opened::Refused(5),
-        Found::Folder => Opened::Refused(5),
-        Found::File { start, len } => Opened::Text {
-            start: start,
-            len: len,
-        },
+    match find(b, path) {
+        Found::Absent => Err(Refusal::File),
+        Found::Folder => Err(Refusal::File),
+        Found::File(content) => Ok(content),
     }
 }
 
 // A part of the bundle as a text: 6 where it holds a byte from 128.
-fn plain(b: &[u8], start: usize, len: usize) -> Opened
-    requires { start + len ≤ length b.now }
-    ensures { Opens b.now (plain (take len (drop start b.now))) result }
+fn plain(b: &[u8], content: Range) -> Result<Range, Refusal>
+    requires { Within b.now content }
+    ensures { Opens b.now (plain (part b.now content.from content.to)) result }
 {
-    let end = start + len;
-    let part = &b[start..end];
-    if scan::is_ascii(part) {
-        return Opened::Text {
-            start: start,
-            len: len,
-        };
+    if scan::is_ascii(&b[content.from..content.to]) {
+        return Ok(content);
     }
-    Opened::Refused(6)
+    Err(Refusal::Byte)
 }
 
 // A file's text: 4, 5, then 6.
-pub fn open_text(b: &[u8], path: &[u8]) -> Opened
+pub fn open_text(b: &[u8], path: &[u8]) -> Result<Range, Refusal>
     requires { is_some (bundle_of b.now) ≡ true }
     ensures { Opens b.now (opened (view (entries_of b.now)) path.now) result }
 {
-    let f = fetch(b, path);
-    match f {
-        Opened::Refused(k) => Opened::Refused(k),
-        Opened::Text { start, len } => plain(b, start, len),
-    }
+    let content = fetch(b, path)?;
+    plain(b, content)
 }
 
 // Is there a file or a folder?
-fn exists(f: Found) -> bool
-    ensures { result ≡ there f }
+fn exists(found: Found) -> bool
+    ensures { result ≡ there found }
 {
-    match f {
-        Found::Absent => false,
-        Found::Folder => true,
-        Found::File { start: _, len: _ } => true,
-    }
+    !matches!(found, Found::Absent)
 }
 
 // Has a folder `CITATION.cff`? Where that path would pass 255 bytes it is absent without asking.
@@ -118,13 +102,10 @@ fn has_citation(b: &[u8], folder: &[u8]) -> bool
     requires { is_some (bundle_of b.now) ≡ true }
     ensures { result ≡ has_citation (view (entries_of b.now)) folder.now }
 {
-    let p = join(folder, b"CITATION.cff");
-    if !p.ok {
-        return false;
+    match join(folder, b"CITATION.cff") {
+        None => false,
+        Some(path) => exists(find(b, path.as_bytes())),
     }
-    let bytes = p.bytes;
-    let n = p.len;
-    exists(find(b, &bytes[..n]))
 }
 
 // The nearest folder upward that has `CITATION.cff`, as a start of `folder`; else `folder` itself.

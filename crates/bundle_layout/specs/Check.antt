@@ -1,63 +1,51 @@
 -- The walk over a bundle's entries: what is still to be read, and the paths so far.
-use Rattle.std.specs.Prelude.{◌≡◌, List, [], ◌∷◌, ◌++◌, Bool, ◌&&◌, ℕ, suc, ◌+◌, ◌-◌, ◌*◌, ◌≤◌, ◌<◌, eqb, leb, length, take, drop, get_or}
+use Rattle.std.specs.Option.{is_some as filled}
+use Rattle.std.specs.Prelude.{Option as Maybe, Some, None, ◌≡◌, List, [], ◌∷◌, ◌++◌, Bool, ◌&&◌, ℕ, suc, ◌+◌, ◌-◌, ◌*◌, ◌≤◌, ◌<◌, eqb, leb, length, drop, get_or}
 use Rattle.std.proofs.Math.Path.{refl, ap}
-use Rattle.std.proofs.Common.{sym, ◌∙◌, append_assoc, append-nil, true≢false, arith, length-drop, length-take-le}
+use Rattle.std.proofs.Common.{sym, ◌∙◌, append_assoc, append-nil, true≢false, arith, length-drop}
 use Rattle.std.proofs.Math.Bool.{true, false, and-false}
 use Rattle.std.proofs.Math.Option.{Option, none, some}
 use Rattle.std.proofs.Math.Decide.{dec_le}
-use borrow.Author.Tests.{le-leb, lt-leb, eq-eqb, ne_eqb, leb-false, not-true}
+use borrow.Author.Tests.{le-leb, lt-leb, eq-eqb, ne_eqb, not-true}
 use Rattle.rules.specs.Bytes.{is_path, less}
 use Rattle.rules.specs.Layout.{Parser, bind, ◌>>=◌, pure, times}
 use Rattle.rules.specs.Bundle.{Entry, entry, good_paths, paths_of, bundle_of}
 use Rattle.rules.specs.Answer.{is_some}
 use Rattle.rules.proofs.Laws.Bool.{and_l, and_r}
 use Rattle.paths.specs.Paths.{path-long}
-use Rattle.paths.specs.declared.Joined.{Joined}
+use Rattle.paths.specs.Joined.{text}
+use Rattle.paths.specs.declared.path.Path.{Path}
 use Rattle.bundle_entries.specs.Whole.{finish, closing, bundle-rest}
-use Rattle.bundle_entries.specs.Entries.{entry_of, head_answer, HeadAt, PathOf}
+use Rattle.bundle_entries.specs.Entries.{entry_of, path_at, IsHead}
 use Rattle.bundle_layout.specs.Order.{Well, Marks, Marked, Agree, keeps, well-start, well-on, marks-on, bad_path, bad_order, bad_clash, well-good, order-inside}
 use Rattle.bundle_entries.specs.declared.Head.{Head}
 use Rattle.bundle_layout.specs.declared.walk.Walk.{Walk}
 
--- The sizes of a walk's arrays.
-pub record Room (w : Walk) : Type 0 where
-  pub fits : w.len ≤ 255
-  pub size : length w.bytes ≡ 255
-  pub marks : length w.files ≡ 256
-
-abbrev pub last_path : Walk → List ℕ
-last_path w = take w.len w.bytes
-
-pub record Starts (ok : Bool) (w : Walk) : Type 0 where
-  pub says : w.ok ≡ ok
+pub record Starts (w : Walk) : Type 0 where
   pub place : w.at ≡ 2
-  pub room : Room w
-  pub none : w.len ≡ 0
+  pub none : text w.last ≡ []
   pub clear : get_or w.files 0 0 ≡ 0
 
 -- The paths so far, the last of which the walk holds.
 pub record Paths (ps : List (List ℕ)) (w : Walk) : Type 0 where
-  pub well : Well ps (last_path w)
-  pub marks : Marks ps (last_path w) w.files
+  pub well : Well ps (text w.last)
+  pub marks : Marks ps (text w.last) w.files
 
 -- One path more keeps the rules, or no bundle that goes on so does.
-pub record Follows (w : Walk) (i : ℕ) (q : Joined) (r : Walk) : Type 0 where
-  pub room : Room r
-  pub place : r.ok ≡ true → r.at ≡ i
-  pub keeps : r.ok ≡ true → (ps : List (List ℕ)) → Paths ps w → Paths (ps ++ (take q.len q.bytes ∷ [])) r
-  pub breaks : r.ok ≡ false → (ps : List (List ℕ)) → Paths ps w → (rest : List (List ℕ)) → good_paths (ps ++ (take q.len q.bytes ∷ rest)) ≡ false
+abbrev pub Follows : Walk → Path → Walk → Maybe Unit → Type 0
+Follows w q r (Some u) = (ps : List (List ℕ)) → Paths ps w → Paths (ps ++ (text q ∷ [])) r
+Follows w q r None = (ps : List (List ℕ)) → Paths ps w → (rest : List (List ℕ)) → good_paths (ps ++ (text q ∷ rest)) ≡ false
 
 -- The walk has read the entries es of b and has n to read.
 pub record Walked (b : List ℕ) (es : List Entry) (n : ℕ) (w : Walk) : Type 0 where
   pub place : w.at ≤ length b
-  pub room : Room w
   pub rest : bundle_of b ≡ closing es (times n (entry (length b)) (drop w.at b))
   pub paths : Paths (paths_of es) w
 
 -- One entry more, or the bundle breaks its layout.
-pub record Next (b : List ℕ) (w r : Walk) : Type 0 where
-  pub reads : r.ok ≡ true → (es : List Entry) (n : ℕ) → Walked b es (suc n) w → (e : Entry) × Walked b (es ++ (e ∷ [])) n r
-  pub breaks : r.ok ≡ false → (es : List Entry) (n : ℕ) → Walked b es (suc n) w → bundle_of b ≡ none
+abbrev pub Next : List ℕ → Walk → Walk → Maybe Unit → Type 0
+Next b w r (Some u) = (es : List Entry) (n : ℕ) → Walked b es (suc n) w → (e : Entry) × Walked b (es ++ (e ∷ [])) n r
+Next b w r None = (es : List Entry) (n : ℕ) → Walked b es (suc n) w → bundle_of b ≡ none
 
 -- THE WAYS THROUGH THE WALK.
 module _ {x q : List ℕ} {k : ℕ} (s : Agree x q k) (o : List ℕ) {c : Bool} (e : c ≡ keeps x q k o) where
@@ -85,42 +73,30 @@ module _ (x q : List ℕ) (k : ℕ) (o : List ℕ) (h : keeps x q k o ≡ true) 
   unfolding keeps
   kept-clash = not-true _ (and_r (less x q) _ (and_r (is_path q) _ h))
 
-starts-no : {ok : Bool} {w : Walk} {P : Type 0} → Starts ok w → ok ≡ false → w.ok ≡ true → P
-starts-no s e h = absurd (true≢false (sym h ∙ s.says ∙ e))
+module _ (w : Walk) (p : Path) {x q : List ℕ} (a : x ≡ text w.last) (d : q ≡ text p) {k : ℕ} (s : Agree x q k) {c : Bool} (e : c ≡ keeps x q k w.files) where
+  agreed : Agree (text w.last) (text p) k
+  agreed = rw (a, d) at s
 
-module _ (w : Walk) (i : ℕ) (p : Joined) {k : ℕ} (s : Agree (last_path w) (take p.len p.bytes) k) {c : Bool} (e : c ≡ keeps (last_path w) (take p.len p.bytes) k w.files) where
-  pub follow_no : c ≡ false → {r : Walk} → Starts false r → Follows w i p r
-  follow_no t {r} n = record {
-    room = n.room;
-    place = starts-no n refl;
-    keeps = starts-no n refl;
-    breaks = λ h ps P. broken-at s w.files e _ _ _ refl refl refl t P.well P.marks;
-  }
+  pub follow_no : (r : Walk) → c ≡ false → Follows w p r None
+  follow_no r t ps P = broken-at agreed w.files (rw (a, d) at e) _ _ _ refl refl refl t P.well P.marks
 
-  pub follow_yes : c ≡ true → p.len ≤ 255 → length p.bytes ≡ 255 → {m : List ℕ} → Marked w.files m k p.len → Follows w i p (record { ok = true; at = i; len = p.len; bytes = p.bytes; files = m })
-  follow_yes t f z {m} d =
-      let l : length (take p.len p.bytes) ≡ p.len = length-take-le p.len p.bytes (omega arith) in
-      record {
-        room = record { fits = f; size = z; marks = d.size };
-        place = λ h. refl;
-        keeps = λ h ps P. record {
-          well = well-on P.well s P.marks ordered path slashless;
-          marks = marks-on P.well s P.marks ordered (keeps-inside s w.files e t) (rw l d);
-        };
-        breaks = λ h. absurd (true≢false h);
-      }
+  pub follow_yes : c ≡ true → (r : Walk) → r.last ≡ p → Marked w.files r.files k (length q) → Follows w p r (Some tt)
+  follow_yes t r z m ps P = rw z (record {
+    well = well-on P.well agreed P.marks ordered path slashless;
+    marks = marks-on P.well agreed P.marks ordered (keeps-inside agreed w.files kept refl) (rw d at m);
+  })
     where
-      kept : keeps (last_path w) (take p.len p.bytes) k w.files ≡ true
-      kept = sym e ∙ t
+      kept : true ≡ keeps (text w.last) (text p) k w.files
+      kept = rw (t, a, d) at e
 
-      path : is_path (take p.len p.bytes) ≡ true
-      path = kept-path (last_path w) (take p.len p.bytes) k w.files kept
+      path : is_path (text p) ≡ true
+      path = kept-path (text w.last) (text p) k w.files (sym kept)
 
-      ordered : less (last_path w) (take p.len p.bytes) ≡ true
-      ordered = kept-order (last_path w) (take p.len p.bytes) k w.files kept
+      ordered : less (text w.last) (text p) ≡ true
+      ordered = kept-order (text w.last) (text p) k w.files (sym kept)
 
-      slashless : (eqb (get_or (take p.len p.bytes) k 0) 47 && eqb (get_or w.files k 0) 1) ≡ false
-      slashless = kept-clash (last_path w) (take p.len p.bytes) k w.files kept
+      slashless : (eqb (get_or (text p) k 0) 47 && eqb (get_or w.files k 0) 1) ≡ false
+      slashless = kept-clash (text w.last) (text p) k w.files (sym kept)
 
 -- ENTRIES read one by one.
 paths-more : (es : List Entry) (e : Entry) (fs : List Entry) → paths_of (es ++ (e ∷ fs)) ≡ paths_of es ++ (e.path ∷ paths_of fs)
@@ -162,80 +138,80 @@ closing_bad es e (some s) h =
     finish_bad (length s.1) (es ++ (e ∷ []) ++ s.0) z
 
 -- THE WAYS THROUGH A STEP of the walk.
-module _ (b : List ℕ) (w : Walk) {h : Head} (H : HeadAt b (entry (length b)) w.at h) where
-  pub next-no-entry : h.ok ≡ false → {r : Walk} → Starts false r → Next b w r
-  unfolding head_answer closing
-  next-no-entry e s = record {
-    reads = starts-no s refl;
-    breaks = λ q es n W. W.rest ∙ ap (closing es) (times_none (entry (length b)) (drop w.at b) n (H.reads ∙ rw e));
-  }
+module _ (b : List ℕ) (w : Walk) where
+  pub next-no-entry : (r : Walk) → entry (length b) (drop w.at b) ≡ none → Next b w r None
+  unfolding closing
+  next-no-entry r e es n W = W.rest ∙ ap (closing es) (times_none (entry (length b)) (drop w.at b) n e)
 
-  module _ (e : h.ok ≡ true) where
-    read : entry (length b) (drop w.at b) ≡ some (entry_of b h, drop (h.content.start + h.content.len) b)
-    unfolding head_answer
-    read = H.reads ∙ rw e
+  module _ {h : Head} (H : IsHead b (entry (length b)) w.at h) where
+    more : (es : List Entry) (n : ℕ) → Walked b es (suc n) w → bundle_of b ≡ closing (es ++ (entry_of b h ∷ [])) (times n (entry (length b)) (drop h.content.to b))
+    more es n W = W.rest ∙ closing-more (entry (length b)) (drop w.at b) n es (entry_of b h) (drop h.content.to b) H.reads
 
-    more : (es : List Entry) (n : ℕ) → Walked b es (suc n) w → bundle_of b ≡ closing (es ++ (entry_of b h ∷ [])) (times n (entry (length b)) (drop (h.content.start + h.content.len) b))
-    more es n W = W.rest ∙ closing-more (entry (length b)) (drop w.at b) n es (entry_of b h) (drop (h.content.start + h.content.len) b) read
+    path-here : path_at b h ≡ (entry_of b h).path
+    unfolding entry_of
+    path-here = refl
 
-    pub next-no-path : {p : Joined} → PathOf b h p → p.ok ≡ false → {r : Walk} → Starts false r → Next b w r
-    next-no-path P q s = record {
-      reads = starts-no s refl;
-      breaks = λ z es n W. more es n W ∙ closing_bad es (entry_of b h) _ (λ rest. bad_path W.paths.well (entry_of b h).path (sym (path-long (entry_of b h).path (leb-false _ 255 (sym P.says ∙ q)))) rest);
-    }
+    pub next-no-path : (r : Walk) → 255 < length (path_at b h) → Next b w r None
+    next-no-path r q es n W =
+        let z : is_path (entry_of b h).path ≡ false = sym (path-long (entry_of b h).path (rw path-here at q)) in
+        more es n W ∙ closing_bad es (entry_of b h) _ (λ rest. bad_path W.paths.well (entry_of b h).path z rest)
 
-    pub next_follow : {p : Joined} → PathOf b h p → p.ok ≡ true → {r : Walk} → Follows w (h.content.start + h.content.len) p r → Next b w r
-    unfolding paths_of
-    next_follow {p} P q {r} F = record {
-      reads = λ z es n W. (
-        entry_of b h,
-        record {
-          place = rw (F.place z) H.inside;
-          room = F.room;
-          rest = more es n W ∙ ap (λ i. closing (es ++ (entry_of b h ∷ [])) (times n (entry (length b)) (drop i b))) (sym (F.place z));
-          paths = rw (paths-more es (entry_of b h) []) (rw (P.text q) at (F.keeps z (paths_of es) W.paths));
-        },
-      );
-      breaks = λ z es n W. more es n W ∙ closing_bad es (entry_of b h) _ (λ rest. rw (P.text q) at (F.breaks z (paths_of es) W.paths rest));
-    }
+    module _ (p : Path) (P : text p ≡ path_at b h) where
+      pub next_broken : (r s : Walk) → Follows w p r None → Next b w s None
+      next_broken r s F es n W = more es n W ∙ closing_bad es (entry_of b h) _ (λ rest. rw (P ∙ path-here) at (F (paths_of es) W.paths rest))
+
+      pub next_follow : (r s : Walk) → Follows w p r (Some tt) → s.at ≡ h.content.to → s.last ≡ r.last → s.files ≡ r.files → Next b w s (Some tt)
+      unfolding paths_of
+      next_follow r s F a l f es n W =
+          let Q : Paths (paths_of es ++ ((entry_of b h).path ∷ [])) r = rw (P ∙ path-here) at (F (paths_of es) W.paths) in (
+            entry_of b h,
+            record {
+              place = rw a H.content.inside;
+              rest = more es n W ∙ ap (λ i. closing (es ++ (entry_of b h ∷ [])) (times n (entry (length b)) (drop i b))) (sym a);
+              paths = rw (paths-more es (entry_of b h) []) (record { well = rw l Q.well; marks = rw (l, f) Q.marks });
+            },
+          )
 
 -- THE CHECK.
 abbrev pub Walking : List ℕ → ℕ → Walk → Type 0
 Walking b n w = (es : List Entry) × Walked b es n w
 
-pub walking_start : (b : List ℕ) {n : ℕ} → 1 < length b → n ≡ get_or b 0 0 + 256 * get_or b 1 0 → {w : Walk} → Starts true w → Walking b n w
+pub walking_start : (b : List ℕ) {n : ℕ} → 1 < length b → n ≡ get_or b 0 0 + 256 * get_or b 1 0 → {w : Walk} → Starts w → Walking b (n - 0) w
 unfolding paths_of
 walking_start b {n} h e {w} s = (
   [],
-  record {
+  rw z (record {
     place = omega (arith, s.place);
-    room = s.room;
     rest = rw (s.place, e) (bundle-rest b h);
     paths = record { well = rw s.none well-start; marks = rw s.none (record { on = λ l g m. absurd (unmarked l g m); off = λ l g i. absurd i }) };
-  },
+  }),
 )
   where
+    z : n - 0 ≡ n
+    z = omega arith
+
     unmarked : (l : ℕ) → l ≤ 0 → get_or w.files l 0 ≡ 1 → ⊥
     unmarked l g m = let z : l ≡ 0 = omega arith in omega (arith, s.clear, rw z at m)
 
-pub walking_on : (b : List ℕ) {n : ℕ} {w r : Walk} → 0 < n → Next b w r → r.ok ≡ true → Walking b n w → Walking b (n - 1) r
-walking_on b {n} {w} {r} h N e W =
-    let z : n ≡ suc (n - 1) = omega arith in
-    let x = N.reads e W.0 (n - 1) (rw z at W.1) in
-    (W.0 ++ (x.0 ∷ []), x.1)
+module _ (b : List ℕ) {n k : ℕ} {w : Walk} (h : k < n) (W : Walking b (n - k) w) (r : Walk) where
+  last : Walked b W.0 (suc (n - (k + 1))) w
+  last = let z : n - k ≡ suc (n - (k + 1)) = omega arith in rw z at W.1
 
-pub walking-no : (b : List ℕ) {n : ℕ} {w r : Walk} → 0 < n → Next b w r → r.ok ≡ false → Walking b n w → false ≡ is_some (bundle_of b)
-unfolding is_some
-walking-no b {n} {w} {r} h N e W =
-    let z : n ≡ suc (n - 1) = omega arith in
-    sym (rw (N.breaks e W.0 (n - 1) (rw z at W.1)))
+  pub walking_on : (u : Maybe Unit) → filled u ≡ true → Next b w r u → Walking b (n - (k + 1)) r
+  walking_on (Some u) e N = let x = N W.0 (n - (k + 1)) last in (W.0 ++ (x.0 ∷ []), x.1)
+  walking_on None e N = absurd (true≢false (sym e))
 
-pub walking-end : (b : List ℕ) {n : ℕ} {w : Walk} → n ≤ 0 → Walking b n w → eqb w.at (length b) ≡ is_some (bundle_of b)
+  pub walking-no : (u : Maybe Unit) → filled u ≡ false → Next b w r u → false ≡ is_some (bundle_of b)
+  unfolding is_some
+  walking-no (Some u) e N = absurd (true≢false e)
+  walking-no None e N = sym (rw (N W.0 (n - (k + 1)) last))
+
+pub walking-end : (b : List ℕ) {n k : ℕ} {w : Walk} → n ≤ k → Walking b (n - k) w → eqb w.at (length b) ≡ is_some (bundle_of b)
 unfolding times pure closing
-walking-end b {n} {w} h W =
-    let z : n ≡ 0 = omega arith in
-    let k : bundle_of b ≡ finish (length (drop w.at b)) (W.0 ++ []) = rw z at W.1.rest in
-    sym (ap is_some k ∙ finish-good (length (drop w.at b)) (W.0 ++ []) (ap (λ l. good_paths (paths_of l)) (append-nil W.0) ∙ well-good W.1.paths.well) ∙ whole w.at W.1.place)
+walking-end b {n} {k} {w} h W =
+    let z : n - k ≡ 0 = omega arith in
+    let q : bundle_of b ≡ finish (length (drop w.at b)) (W.0 ++ []) = rw z at W.1.rest in
+    sym (ap is_some q ∙ finish-good (length (drop w.at b)) (W.0 ++ []) (ap (λ l. good_paths (paths_of l)) (append-nil W.0) ∙ well-good W.1.paths.well) ∙ whole w.at W.1.place)
   where
     whole : (i : ℕ) → i ≤ length b → leb (length (drop i b)) 0 ≡ eqb i (length b)
     whole i g = at (dec_le (length b) i)

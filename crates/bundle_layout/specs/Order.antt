@@ -1,7 +1,7 @@
 -- Paths in ascending order, and no path that is a folder of another: a rule on the last path and on its starts.
-use Rattle.std.specs.Prelude.{◌≡◌, ◌⊎◌, Bool, false, ◌&&◌, ℕ, suc, ◌+◌, ◌≤◌, ◌<◌, eqb, ltb, length, take, drop, get_or, set}
+use Rattle.std.specs.Prelude.{◌≡◌, ◌⊎◌, Bool, false, ◌&&◌, ℕ, suc, ◌+◌, ◌≤◌, ◌<◌, min, eqb, ltb, length, take, drop, get_or}
 use Rattle.std.proofs.Math.Path.{refl, sym}
-use Rattle.std.proofs.Common.{ap, ◌∙◌, inl, inr, ⊎_elim, arith, add-one, length-set, length-append, take-append-drop, drop_of_length-le, take-suc, get_or-set_same, get_or-set_other, take-take, length-take-le, get_or-take}
+use Rattle.std.proofs.Common.{ap, ◌∙◌, inl, inr, ⊎_elim, arith, add-one, length-append, take-append-drop, drop_of_length-le, take-suc, take-take, length-take-le, get_or-take}
 use mathlib.Core.List.{List, [], ◌∷◌, ◌++◌, append_assoc}
 use Rattle.std.proofs.Math.Bool.{true, not, true≢false, or-false}
 use Rattle.std.proofs.lemmas.Bool.{false≢true}
@@ -337,46 +337,13 @@ module _ {x q : List ℕ} {i : ℕ} (s : Agreeing x q i) where
   pub agreeing-on : i < length x → i < length q → get_or x i 0 ≡ get_or q i 0 → Agreeing x q (i + 1)
   agreeing-on h k e = rw add-one (record { short = h; inside = k; same = take-suc x i 0 h ∙ rw (s.same, e) (sym (take-suc q i 0 k)) })
 
-  pub agreeing-short : length q ≤ i → Agree x q i
-  agreeing-short h = record { short = s.short; inside = s.inside; same = s.same; ends = λ a b e. omega arith }
-
-  pub agreeing-end : length x ≤ i → Agree x q i
-  agreeing-end h = record { short = s.short; inside = s.inside; same = s.same; ends = λ a b e. omega arith }
+  pub agreeing-end : {n : ℕ} → n ≡ min (length x) (length q) → n ≤ i → Agree x q n
+  agreeing-end {n} e h =
+      let z : i ≡ n = omega (arith, s.short, s.inside) in
+      rw (← z) (record { short = s.short; inside = s.inside; same = s.same; ends = λ a b d. absurd (omega arith) })
 
   pub agreeing_differ : (get_or x i 0 ≡ get_or q i 0 → ⊥) → Agree x q i
   agreeing_differ h = record { short = s.short; inside = s.inside; same = s.same; ends = λ a b e. h e }
-
-pub record Clearing (o m : List ℕ) (k i n : ℕ) : Type 0 where
-  pub above : k < i
-  pub inside : i ≤ n
-  pub size : length m ≡ 256
-  pub kept : (l : ℕ) → l ≤ k → get_or m l 0 ≡ get_or o l 0
-  pub cleared : (l : ℕ) → k < l → l < i → get_or m l 0 ≡ 0
-
-pub clearing-start : (o : List ℕ) (k n : ℕ) → k < n → length o ≡ 256 → Clearing o o k (k + 1) n
-clearing-start o k n h s = record { above = omega arith; inside = omega arith; size = s; kept = λ l g. refl; cleared = λ l g j. absurd (omega arith) }
-
-module _ {o m : List ℕ} {k i n : ℕ} (s : Clearing o m k i n) where
-  pub clearing-on : i < n → n ≤ 255 → Clearing o (set m i 0) k (i + 1) n
-  clearing-on h b = record {
-    above = omega (arith, s.above);
-    inside = omega arith;
-    size = length-set m i 0 ∙ s.size;
-    kept = λ l g. get_or-set_other m i l 0 0 (λ e. absurd (omega (arith, s.above))) ∙ s.kept l g;
-    cleared = λ l g j. at l g j (dec_le i l);
-  }
-    where
-      at : (l : ℕ) → k < l → l < i + 1 → Dec (i ≤ l) → get_or (set m i 0) l 0 ≡ 0
-      at l g j (yes e) = let z : l ≡ i = omega arith in rw z (get_or-set_same m i 0 0 (omega (arith, s.size)))
-      at l g j (no e) = get_or-set_other m i l 0 0 (λ z. absurd (omega arith)) ∙ s.cleared l g (omega arith)
-
-  pub clearing-end : n ≤ i → k < n → n ≤ 255 → Marked o (set m n 1) k n
-  clearing-end h g b = record {
-    kept = λ l j. get_or-set_other m n l 1 0 (λ e. absurd (omega arith)) ∙ s.kept l j;
-    cleared = λ l j t. get_or-set_other m n l 1 0 (λ e. absurd (omega arith)) ∙ s.cleared l j (omega arith);
-    marked = get_or-set_same m n 1 0 (omega (arith, s.size));
-    size = length-set m n 1 ∙ s.size;
-  }
 
 -- A path of n bytes may follow the last one.
 unfoldable pub keeps : List ℕ → List ℕ → ℕ → List ℕ → Bool

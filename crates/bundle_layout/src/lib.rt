@@ -9,6 +9,7 @@ mod order;
 mod walk;
 
 use bundle_entries::word;
+use walk::Walk;
 
 // Does the bundle keep its layout?
 pub fn check(b: &[u8]) -> bool
@@ -17,14 +18,11 @@ pub fn check(b: &[u8]) -> bool
     if b.len() < 2 {
         return false;
     }
-    let mut remaining = word(b, 0);
-    let mut w = walk::start(true);
-    while 0 < remaining {
-        w = walk::next(b, w);
-        if !w.ok {
+    let mut walk = Walk::start();
+    for done in 0..word(b, 0) {
+        if walk.next(b).is_none() {
             return false;
         }
-        remaining -= 1;
     }
-    w.at == b.len()
+    walk.at == b.len()
 }

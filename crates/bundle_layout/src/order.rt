@@ -9,17 +9,13 @@ use paths::is_path;
 pub fn agree(x: &[u8], q: &[u8]) -> usize
     ensures { Agree x.now q.now result }
 {
-    let mut i: usize = 0;
-    while i < x.len() {
-        if q.len() <= i {
-            return i;
-        }
+    let n = x.len().min(q.len());
+    for i in 0..n {
         if x[i] != q[i] {
             return i;
         }
-        i += 1;
     }
-    i
+    n
 }
 
 // Does x stand before q, where they agree in k bytes?
@@ -37,17 +33,17 @@ fn ordered(x: &[u8], q: &[u8], k: usize) -> bool
 }
 
 // Is a marked start of q, of k bytes, a folder of q?
-fn clashes(q: &[u8], k: usize, files: [u8; 256]) -> bool
+fn clashes(q: &[u8], k: usize, files: &[u8; 256]) -> bool
     requires { (k < length q.now) × (length q.now ≤ 255) }
-    ensures { result ≡ (eqb (get_or q.now k 0) 47 && eqb (get_or files k 0) 1) }
+    ensures { result ≡ (eqb (get_or q.now k 0) 47 && eqb (get_or files.now k 0) 1) }
 {
     (q[k] == b'/') & (files[k] == 1)
 }
 
 // May the path q follow the last path x, with which it agrees in k bytes? `files` marks the starts of x that are paths.
-pub fn keeps(x: &[u8], q: &[u8], k: usize, files: [u8; 256]) -> bool
+pub fn keeps(x: &[u8], q: &[u8], k: usize, files: &[u8; 256]) -> bool
     requires { Agree x.now q.now k × (length q.now ≤ 255) }
-    ensures { result ≡ keeps x.now q.now k files }
+    ensures { result ≡ keeps x.now q.now k files.now }
 {
     if !is_path(q) {
         return false;
@@ -59,16 +55,10 @@ pub fn keeps(x: &[u8], q: &[u8], k: usize, files: [u8; 256]) -> bool
 }
 
 // The marks for a last path of n bytes that agrees with the one before it in k bytes.
-pub fn mark(files: [u8; 256], k: usize, n: usize) -> [u8; 256]
-    requires { (k < n) × (n ≤ 255) × (length files ≡ 256) }
-    ensures { Marked files result k n }
+pub fn mark(files: &mut [u8; 256], k: usize, n: usize)
+    requires { (k < n) × (n ≤ 255) }
+    ensures { Marked files.old files.new k n }
 {
-    let mut m = files;
-    let mut i = k + 1;
-    while i < n {
-        m[i] = 0;
-        i += 1;
-    }
-    m[n] = 1;
-    m
+    files[k + 1..n].fill(0);
+    files[n] = 1;
 }

@@ -1,3 +1,4 @@
 pub mod Called
 pub mod Measure
+pub mod Met
 pub mod Compare

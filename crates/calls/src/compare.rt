@@ -5,10 +5,44 @@ ghost use Rattle.rules.specs.Strings.{expression};
 ghost use Rattle.rules.specs.Sheet.{resolve};
 ghost use Rattle.sheet.specs.Find.{IsSheet};
 ghost use Rattle.calls.specs.Compare.{Differs};
+ghost use Rattle.calls.specs.Met.{met_behind, Meets, meets-none, meets-more};
 
 use scan::Set;
-use strings::progress::Progress;
-use strings::readers::term;
+use string_ends::Pieces;
+
+// Another text, and how many of its bytes a text has met that comes piece by piece, one more than it has where they differ.
+#[derive(Clone, Copy)]
+struct Met<'a> {
+    other: &'a [u8],
+    met: usize,
+}
+
+impl<'a> Pieces for Met<'a> {
+    ghost Ready = { λ m. Unit {0} };
+
+    ghost Takes = { Meets };
+
+    fn take(&mut self, piece: &[u8]) {
+        self.met = meet(self.other, self.met, piece);
+    }
+
+    ghost none = { λ a r. meets-none a };
+
+    ghost more = { λ a b c v w p q. meets-more p q };
+}
+
+// How many bytes of `other` have been met behind a piece, where they were `met` before it.
+fn meet(other: &[u8], met: usize, piece: &[u8]) -> usize
+    ensures { result ≡ met_behind other.now met piece.now }
+{
+    if other.len() < met {
+        return met;
+    }
+    if scan::starts_with(other, met, piece) {
+        return met + piece.len();
+    }
+    other.len() + 1
+}
 
 // Does an expression begin with a literal whose first byte, one that stands for itself, is another than the text's?
 fn begins_otherwise(expression: &[u8], text: &[u8]) -> bool
@@ -32,20 +66,13 @@ pub fn is_text(text: &[u8], sheet: &[u8], other: &[u8]) -> bool
     if begins_otherwise(text, other) {
         return false;
     }
-    let mut none = [0u8; 0];
+    let mut to = Met { other, met: 0 };
     let mut i: usize = 0;
-    let mut z = Progress {
-        next: 0,
-        kept: 0,
-        met: 0,
-    };
-    while z.met <= other.len() {
-        let t = term(&text[i..], sheet, other, &mut none, 0, z);
-        let to = t.to;
-        z = to;
-        i += t.used;
-        let same = z.met == other.len();
-        if !t.found {
+    while to.met <= other.len() {
+        let r = strings::read_round(&text[i..], sheet, &mut to);
+        i += r.used;
+        let same = to.met == other.len();
+        if !r.found {
             return same;
         }
         i = scan::span(text, i, scan::Set::LineBlank);

@@ -1,11 +1,13 @@
-// The texts that a call takes, measured by their readers without a buffer.
-ghost use Rattle.std.specs.Prelude.{◌+◌, ◌^◌, ◌<◌};
+// The texts that a call takes, measured.
+ghost use Rattle.std.specs.Prelude.{◌≡◌, ◌+◌, ◌^◌, ◌<◌};
 ghost use Rattle.rules.specs.Strings.{literal, expression};
 ghost use Rattle.rules.specs.Sheet.{resolve};
 ghost use Rattle.sheet.specs.Find.{IsSheet};
-ghost use Rattle.calls.specs.Measure.{Measures, MeasuresRead};
+ghost use Rattle.buffers.specs.Put.{Writer};
+ghost use Rattle.calls.specs.Measure.{kept_behind, Measures, MeasuresRead, meter_start, measure_of, Meters, meters-none, meters-more};
 
 use paths::trim_end;
+use string_ends::Pieces;
 
 // A text's length, and its length without trailing blanks; each exact up to the room, and one more than that where it is longer.
 #[derive(Clone, Copy)]
@@ -19,6 +21,62 @@ pub struct Measure {
 pub struct Measured {
     pub used: usize,
     pub size: Measure,
+}
+
+// Measures a text piece by piece.
+#[derive(Clone, Copy)]
+struct Meter {
+    room: usize,
+    len: usize,
+    kept: usize,
+}
+
+impl Meter {
+    fn start(room: usize) -> Meter
+        ensures { result ≡ meter_start room }
+    {
+        Meter {
+            room,
+            len: 0,
+            kept: 0,
+        }
+    }
+
+    fn size(self) -> Measure
+        ensures { result ≡ measure_of self }
+    {
+        Measure {
+            len: self.len,
+            kept: self.kept,
+        }
+    }
+}
+
+impl Pieces for Meter {
+    ghost Ready = { λ m. Writer m.room m.len };
+
+    ghost Takes = { Meters };
+
+    fn take(&mut self, piece: &[u8]) {
+        self.kept = keep(self.room, self.len, self.kept, piece);
+        self.len = buffers::after(self.room, self.len, piece.len());
+    }
+
+    ghost none = { λ a r. meters-none a r };
+
+    ghost more = { λ a b c v w p q. meters-more p q };
+}
+
+// Where a writer at p goes on behind a piece without its trailing blanks; at `kept` where the piece is nothing but blanks.
+fn keep(room: usize, p: usize, kept: usize, piece: &[u8]) -> usize
+    requires { room + 1 < 2 ^ 64 }
+    ensures { result ≡ kept_behind room p kept piece.now }
+{
+    let n = trim_end(piece);
+    if n == 0 {
+        return kept;
+    }
+    buffers::after(room, p, n)
 }
 
 // A text that stands somewhere as it is.
@@ -37,14 +95,12 @@ pub fn literal(text: &[u8], room: usize) -> Measured
     requires { room + 1 < 2 ^ 64 }
     ensures { MeasuresRead room (literal text.now) text.now result }
 {
-    let mut none = [0u8; 0];
-    let r = strings::readers::literal(text, b"", &mut none, room, strings::begins(0));
-    let to = r.to;
-    let size = Measure {
-        len: to.next,
-        kept: to.kept,
-    };
-    Measured { used: r.used, size }
+    let mut to = Meter::start(room);
+    let used = string_ends::literal(text, &mut to);
+    Measured {
+        used,
+        size: to.size(),
+    }
 }
 
 // An expression.
@@ -52,12 +108,10 @@ pub fn expression(text: &[u8], sheet: &[u8], room: usize) -> Measured
     requires { (room + 1 < 2 ^ 64) × IsSheet sheet.now }
     ensures { (s : IsSheet sheet.now) → MeasuresRead room (expression (resolve s.r) text.now) text.now result }
 {
-    let mut none = [0u8; 0];
-    let r = strings::readers::expression(text, sheet, b"", &mut none, room, strings::begins(0));
-    let to = r.to;
-    let size = Measure {
-        len: to.next,
-        kept: to.kept,
-    };
-    Measured { used: r.used, size }
+    let mut to = Meter::start(room);
+    let used = strings::read_expression(text, sheet, &mut to);
+    Measured {
+        used,
+        size: to.size(),
+    }
 }

@@ -1,88 +1,55 @@
 // The cases of a test program: fields of bytes behind each other, what a buffer must hold, and the report.
 #![tactic(auto)]
 
-ghost use Rattle.std.specs.Prelude.{◌+◌, ◌≤◌, ◌<◌, ◌++◌, length, OnOk, codes, decimal};
+ghost use Rattle.std.specs.Prelude.{[], ◌∷◌, ◌≡◌, ◌+◌, ◌%◌, ◌^◌, ◌≤◌, ◌++◌, ◌<◌, List, Bool, Some, IfSome, OnOk, IfOk, codes, count_by, decimal, length, not};
 ghost use Rattle.std.specs.Io.KnownBytes.{Appends};
+ghost use Rattle.std.specs.Iterator.{Drains, IsFinite, at_most};
 
+use std::fmt;
 use std::io::{Result, Write};
 
-// A byte as a number.
-fn wide(x: u8) -> usize
-    ensures { result < 256 }
+// The first field and what is behind it: a 16-bit length, low byte first, then its bytes. None where it is cut short.
+fn split_field(bytes: &[u8]) -> Option<(&[u8], &[u8])>
+    ensures { IfSome result (λ p. length p.1.now < length bytes.now) }
 {
-    x as usize
+    let (size, rest) = bytes.split_first_chunk()?;
+    rest.split_at_checked(usize::from(u16::from_le_bytes(*size)))
 }
 
-// The number in 16 bits at a place, low byte first.
-pub fn short_at(bytes: &[u8], at: usize) -> usize
-    requires { at + 2 ≤ length bytes.now }
-    ensures { result < 65536 }
-{
-    wide(bytes[at]) + 256 * wide(bytes[at + 1])
-}
-
-// Where the bytes of a field stand.
+// Fields behind each other. One that is cut short is empty, and the last.
 #[derive(Clone, Copy)]
-pub struct Part {
-    pub from: usize,
-    pub to: usize,
-}
+pub struct Fields<'a>(pub &'a [u8]);
 
-// The field at a place: a 16-bit length, then its bytes. An empty field at the end where it is cut short.
-pub fn part_at(case: &[u8], at: usize) -> Part
-    requires { at ≤ length case.now }
-    ensures { (result.from ≤ result.to) × (result.to ≤ length case.now) × (at ≤ result.to) × (at < length case.now → at < result.to) }
-{
-    let n = case.len();
-    if n - at < 2 {
-        return Part { from: n, to: n };
-    }
-    let size = short_at(case, at);
-    if n - at - 2 < size {
-        return Part { from: n, to: n };
-    }
-    Part {
-        from: at + 2,
-        to: at + 2 + size,
+impl<'a> Fields<'a> {
+    // The next field, empty where there is none.
+    pub fn field(&mut self) -> &'a [u8]
+        ensures { length self.new.0.now ≤ length self.old.0.now }
+    {
+        self.next().unwrap_or_default()
     }
 }
 
-// The place behind the first `count` fields of a case.
-pub fn behind(case: &[u8], count: usize) -> usize
-    ensures { result ≤ length case.now }
-{
-    let mut at: usize = 0;
-    let mut i: usize = 0;
-    while i < count {
-        let part = part_at(case, at);
-        at = part.to;
-        i += 1;
-    }
-    at
-}
+impl<'a> Iterator for Fields<'a> {
+    type Item = &'a [u8];
 
-// A field of a case; the first is 0.
-pub fn field(case: &[u8], k: usize) -> &[u8] {
-    let part = part_at(case, behind(case, k));
-    let from = part.from;
-    let to = part.to;
-    &case[from..to]
+    ghost next_gives = { λ s _ t. length t.0.now ≤ length s.0.now };
+
+    ghost remaining = { λ s. at_most (length s.0.now) };
+
+    fn next(&mut self) -> Option<&'a [u8]> {
+        if self.0.is_empty() {
+            return None;
+        }
+        let (field, rest) = split_field(self.0).unwrap_or_default();
+        self.0 = rest;
+        Some(field)
+    }
 }
 
 // Does a buffer hold the text, and zero behind it?
 pub fn holds(out: &[u8], text: &[u8]) -> bool {
-    let mut i: usize = 0;
-    while i < out.len() {
-        let mut x: u8 = 0;
-        if i < text.len() {
-            x = text[i];
-        }
-        if out[i] != x {
-            return false;
-        }
-        i += 1;
-    }
-    text.len() <= out.len()
+    out.strip_prefix(text)
+        .is_some_and(|behind| behind.iter().all(|x| *x == 0))
 }
 
 // Writes the number of a case that differs.
@@ -93,17 +60,52 @@ pub fn differs<W: Write>(case: u64, out: &mut W) -> Result<()>
 }
 
 // What was replayed.
-#[derive(Clone, Copy)]
+#[derive(Clone, Copy, Default)]
 pub struct Tally {
     pub cases: u64,
     pub differing: u64,
+}
+
+impl Tally {
+    // Counts a case. The counts wrap.
+    fn add(&mut self, same: bool)
+        ensures cases { self.new.cases ≡ (self.old.cases + 1) % 2 ^ 64 }
+        ensures differing { self.new.differing ≡ (self.old.differing + count_by not (same ∷ [])) % 2 ^ 64 }
+    {
+        self.cases = self.cases.wrapping_add(1);
+        self.differing = self.differing.wrapping_add(u64::from(!same));
+    }
+}
+
+impl fmt::Display for Tally {
+    ghost output = { λ tally. Some (decimal tally.cases ++ codes " cases, " ++ decimal tally.differing ++ codes " differ") };
+
+    fn fmt<W: fmt::Write>(&self, f: &mut fmt::Formatter<W>) -> fmt::Result {
+        let cases = self.cases;
+        let differing = self.differing;
+        write!(f, "{cases} cases, {differing} differ")
+    }
+}
+
+// Counts the cases, each of which is whether its answer is the one given, and writes the number of each that differs.
+pub fn replay<W: Write, C: Iterator<Item = bool> + Drop>(cases: C, out: &mut W) -> Result<Tally>
+    requires can { C.can_next cases }
+    requires ends { IsFinite (C.remaining cases) }
+    ensures { IfOk result (λ tally. (xs : List Bool) × Drains C.next_gives cases xs × (tally.cases ≡ length xs % 2 ^ 64) × (tally.differing ≡ count_by not xs % 2 ^ 64)) }
+{
+    let mut tally = Tally::default();
+    for same in cases {
+        if !same {
+            differs(tally.cases, out)?;
+        }
+        tally.add(same);
+    }
+    Ok(tally)
 }
 
 // Writes how many cases there were, and how many differ.
 pub fn report<W: Write>(tally: Tally, out: &mut W) -> Result<()>
     ensures { OnOk result (Appends (W.contents out.old) (W.contents out.new) (decimal tally.cases ++ codes " cases, " ++ decimal tally.differing ++ codes " differ\n")) }
 {
-    let cases = tally.cases;
-    let differing = tally.differing;
-    writeln!(out, "{cases} cases, {differing} differ")
+    writeln!(out, "{tally}")
 }

@@ -1,5 +1,5 @@
 -- The definitions call: the ways through it, before its buffers are cleared.
-use Rattle.std.specs.Prelude.{◌≡◌, List, Bool, true, false, ℕ, zero, suc, ◌+◌, ◌*◌, ◌-◌, ◌≤◌, ◌<◌, length, take, drop}
+use Rattle.std.specs.Prelude.{◌≡◌, List, Bool, true, false, ℕ, zero, suc, ◌+◌, ◌*◌, ◌-◌, ◌≤◌, ◌<◌, length, take}
 use Rattle.std.proofs.Math.Path.{sym, ap}
 use Rattle.std.proofs.Common.{◌∙◌, arith, add-zero, le-leb}
 use Rattle.std.proofs.Math.Nat.{sub-zero}
@@ -14,9 +14,8 @@ use Rattle.rules.specs.Imports.{file_sheet, imported_sheet, definitions}
 use Rattle.rules.specs.Calls.{limit, zeros, padded, defined_answer, parse_definitions_result}
 use Rattle.rules.proofs.Laws.Bool.{true-some, false-some}
 use Rattle.bundle.specs.Find.{entries_of, entries-some}
-use Rattle.bundle.specs.Open.{Opens, answer_of}
-use Rattle.bundle.specs.declared.Opened.{Opened}
-use Rattle.bundle.specs.declared.Opened.TheVariants.{Refused, Text}
+use Rattle.bundle.specs.Open.{IsOpened}
+use Rattle.scan.specs.declared.Range.{Range}
 use Rattle.scan.specs.Sets.{part}
 use Rattle.paths.specs.Paths.{Parent}
 use Rattle.values.specs.Values.{slots, Room}
@@ -72,13 +71,13 @@ module _ (b p : List ℕ) (l w : ℕ) where
           let y = entries-some b x.0 x.1 in
           rw (le-leb (16 * limit l) w h, x.1) (ap (λ es. Rest es (fetch (view es) p)) (sym y)) ∙ ap (Rest (entries_of b)) f
 
-      pub definitions-no : {f : Opened} {k : ℕ} → Opens b (fetch (view (entries_of b)) p) f → f ≡ Refused k → parse_definitions_result b p l w ≡ refused k
-      unfolding answer_of ◌>>=◌
-      definitions-no o q = from-file (o.says ∙ ap (answer_of b) q)
+      pub definitions-no : {k : ℕ} → fetch (view (entries_of b)) p ≡ refused k → parse_definitions_result b p l w ≡ refused k
+      unfolding ◌>>=◌
+      definitions-no f = from-file f
 
-      pub definitions-file : {f : Opened} {s n : ℕ} → Opens b (fetch (view (entries_of b)) p) f → f ≡ Text s n → parse_definitions_result b p l w ≡ definitions (limit l) (view (entries_of b)) (parent p) (take n (drop s b))
-      unfolding answer_of ◌>>=◌
-      definitions-file o q = from-file (o.says ∙ ap (answer_of b) q)
+      pub definitions-file : {r : Range} → IsOpened b (fetch (view (entries_of b)) p) r → parse_definitions_result b p l w ≡ definitions (limit l) (view (entries_of b)) (parent p) (part b r.from r.to)
+      unfolding ◌>>=◌
+      definitions-file o = from-file o.says
 
 -- THE FILE.
 more-slots : (L k d : ℕ) → slots L k ≤ slots L (k + d)
@@ -94,23 +93,20 @@ define_room k L h i j =
     let f : slots L k ≤ slots L 15 = rw e at (more-slots L k (15 - k)) in
     record { fits = omega arith; most = i }
 
-module _ (b p : List ℕ) (s n : ℕ) (l : List ℕ) where
-  content : part b s (s + n) ≡ take n (drop s b)
-  content = let z : s + n - s ≡ n = omega arith in ap (λ x. take x (drop s b)) z
-
+module _ (b p : List ℕ) (f : Range) (l : List ℕ) where
   abbrev Sheet-of : Answer Records
-  Sheet-of = definitions (limit (length l)) (view (entries_of b)) (parent p) (take n (drop s b))
+  Sheet-of = definitions (limit (length l)) (view (entries_of b)) (parent p) (part b f.from f.to)
 
-  pub define_six : {c : Bool} → c ≡ all ascii (part b s (s + n)) → c ≡ false → Sheet-of ≡ refused 6
+  pub define_six : {c : Bool} → c ≡ all ascii (part b f.from f.to) → c ≡ false → Sheet-of ≡ refused 6
   unfolding definitions file_sheet check ◌>>◌
-  define_six a e = rw (sym (ap (all ascii) content) ∙ sym a ∙ e)
+  define_six a e = rw (sym a ∙ e)
 
   -- The file was read.
   module _ {m : ℕ} (P : Parent p m) {L : ℕ} (q : L ≡ limit (length l)) {l₂ w w₂ : List ℕ} {r : Parsed}
-      (Z : Parses L (file_sheet L (view (entries_of b)) (imported_sheet L (view (entries_of b)) 6) (take m p) (part b s (s + n))) l l₂ w w₂ r) where
-    reads : {a : Answer Records} → file_sheet L (view (entries_of b)) (imported_sheet L (view (entries_of b)) 6) (take m p) (part b s (s + n)) ≡ a → Sheet-of ≡ a
+      (Z : Parses L (file_sheet L (view (entries_of b)) (imported_sheet L (view (entries_of b)) 6) (take m p) (part b f.from f.to)) l l₂ w w₂ r) where
+    reads : {a : Answer Records} → file_sheet L (view (entries_of b)) (imported_sheet L (view (entries_of b)) 6) (take m p) (part b f.from f.to) ≡ a → Sheet-of ≡ a
     unfolding definitions
-    reads f = sym (ap (λ x. file_sheet x (view (entries_of b)) (imported_sheet x (view (entries_of b)) 6) (parent p) (take n (drop s b))) q) ∙ ap (λ x. file_sheet L (view (entries_of b)) (imported_sheet L (view (entries_of b)) 6) x (take n (drop s b))) (sym P.text) ∙ ap (file_sheet L (view (entries_of b)) (imported_sheet L (view (entries_of b)) 6) (take m p)) (sym content) ∙ f
+    reads h = sym (ap (λ x. file_sheet x (view (entries_of b)) (imported_sheet x (view (entries_of b)) 6) (parent p) (part b f.from f.to)) q) ∙ ap (λ x. file_sheet L (view (entries_of b)) (imported_sheet L (view (entries_of b)) 6) x (part b f.from f.to)) (sym P.text) ∙ h
 
     pub define_no : r.ok ≡ false → {o : Outcome} → o ≡ refused_outcome r.number → Defines Sheet-of l l₂ w w₂ o
     define_no e h = defines-refused h Z.size Z.work-size (reads (Z.stops e))

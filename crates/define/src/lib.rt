@@ -2,7 +2,7 @@
 // stands behind the sheet, and in the work buffer, is not cleared.
 #![tactic(auto)]
 
-ghost use Rattle.std.specs.Prelude.{◌≡◌, true, ◌+◌, ◌*◌, ◌≤◌, length, take, drop};
+ghost use Rattle.std.specs.Prelude.{◌≡◌, true, ◌+◌, ◌*◌, ◌≤◌, length};
 ghost use Rattle.rules.specs.Bytes.{parent};
 ghost use Rattle.rules.specs.Bundle.{bundle_of};
 ghost use Rattle.rules.specs.Files.{view};
@@ -10,10 +10,12 @@ ghost use Rattle.rules.specs.Imports.{definitions};
 ghost use Rattle.rules.specs.Calls.{limit, parse_definitions_result};
 ghost use Rattle.rules.specs.Answer.{is_some};
 ghost use Rattle.bundle.specs.Find.{entries_of};
+ghost use Rattle.scan.specs.Sets.{part};
+ghost use Rattle.bundle_entries.specs.Entries.{Within};
 ghost use Rattle.define.specs.Define.{refused_outcome, Defines};
 
 use arguments::sheet_limit;
-use bundle::Opened;
+use paths::Range;
 
 // What the call came to: its number, and the length of the sheet that stands in its buffer.
 #[derive(Clone, Copy)]
@@ -32,33 +34,18 @@ fn refused(number: u8) -> Outcome
     }
 }
 
-// The sheet of a file, whose content stands at `start` in the bundle.
-fn define(
-    bundle: &[u8],
-    path: &[u8],
-    start: usize,
-    len: usize,
-    left: &mut [u8],
-    work: &mut [u8],
-) -> Outcome
-    requires { (is_some (bundle_of bundle.now) ≡ true) × (start + len ≤ length bundle.now) × (16 * limit (length left.old) ≤ length work.old) }
-    ensures { Defines (definitions (limit (length left.old)) (view (entries_of bundle.now)) (parent path.now) (take len (drop start bundle.now))) left.old left.new work.old work.new result }
+// The sheet of a file, a part of the bundle.
+fn define(bundle: &[u8], path: &[u8], file: Range, left: &mut [u8], work: &mut [u8]) -> Outcome
+    requires { (is_some (bundle_of bundle.now) ≡ true) × Within bundle.now file × (16 * limit (length left.old) ≤ length work.old) }
+    ensures { Defines (definitions (limit (length left.old)) (view (entries_of bundle.now)) (parent path.now) (part bundle.now file.from file.to)) left.old left.new work.old work.new result }
 {
-    let end = start + len;
-    if !scan::is_ascii(&bundle[start..end]) {
+    let text = &bundle[file.from..file.to];
+    if !scan::is_ascii(text) {
         return refused(6);
     }
     let parent = paths::parent(path);
     let limit = sheet_limit(left.len());
-    let r = definitions::files::parse(
-        bundle,
-        &path[..parent],
-        &bundle[start..end],
-        left,
-        limit,
-        work,
-        6,
-    );
+    let r = definitions::files::parse(bundle, &path[..parent], text, left, limit, work, 6);
     if !r.ok {
         return refused(r.number);
     }
@@ -79,9 +66,8 @@ pub fn parse_definitions(bundle: &[u8], path: &[u8], left: &mut [u8], work: &mut
     if !bundle_layout::check(bundle) {
         return refused(2);
     }
-    let f = bundle::fetch(bundle, path);
-    match f {
-        Opened::Refused(k) => refused(k),
-        Opened::Text { start, len } => define(bundle, path, start, len, left, work),
+    match bundle::fetch(bundle, path) {
+        Err(refusal) => refused(u8::from(refusal)),
+        Ok(file) => define(bundle, path, file, left, work),
     }
 }

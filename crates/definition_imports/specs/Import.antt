@@ -1,13 +1,12 @@
 -- The imports of a file of definitions, up to the file that one names.
-use Rattle.std.specs.Prelude.{◌≡◌, List, [], ◌∷◌, Bool, true, false, ◌&&◌, leb, length, take}
+use Rattle.std.specs.Prelude.{Option as Maybe, Some, None, ◌≡◌, List, [], ◌∷◌, Bool, true, false, length, take}
 use Rattle.std.proofs.Math.Path.{refl, sym, ap}
-use Rattle.std.proofs.Common.{◌∙◌, true≢false, length-append, drop-drop, length-take-le, take-take, leb-false}
+use Rattle.std.proofs.Common.{◌∙◌, true≢false, length-append, drop-drop, length-take-le, take-take}
 use Prim.Native.Nat.{ℕ, suc, ◌+◌, ◌-◌, ◌≤◌, ◌<◌}
 use native.Mathlib.Omega.{arith}
 use Rattle.std.proofs.Math.ListN.{drop}
 use Rattle.rules.specs.Answer.{Answer, refused, accepted, ◌>>=◌, ◌>>◌, check}
 use Rattle.rules.specs.Reader.{all, empty, but, either, span}
-use Rattle.rules.proofs.Laws.Bool.{and_l}
 use Rattle.rules.specs.Bytes.{ascii, blank, is_path, join, parent}
 use Rattle.rules.specs.Bundle.{Entry}
 use Rattle.rules.specs.Files.{View, view}
@@ -18,8 +17,11 @@ use Rattle.rules.specs.Imports.{bind_names, import_file, imported, file_sheet, i
 use Rattle.scan.specs.Sets.{part, Spans, Sees, byte_is}
 use Rattle.scan.specs.Laws.{sees-the, skips-at}
 use Rattle.scan.specs.Laws.{tail-part}
-use Rattle.paths.specs.Paths.{path-long, Joins, Parent}
-use Rattle.paths.specs.declared.Joined.{Joined}
+use Rattle.paths.specs.Paths.{path-long, Parent}
+use Rattle.paths.specs.Joined.{text}
+use Rattle.paths.specs.declared.path.Path.{Path}
+use Rattle.scan.specs.declared.Range.{Range}
+use Rattle.bundle_entries.specs.Entries.{Within}
 use Rattle.bundle.specs.Find.{Finds, file_at}
 use Rattle.bundle.specs.declared.Found.{Found}
 use Rattle.bundle.specs.declared.Found.TheVariants.{Absent, Folder, File as At}
@@ -46,12 +48,10 @@ pub record ReadsImport (t : List ℕ) (at : ℕ) (r : Import) : Type 0 where
   pub none : r.found ≡ false → (L : ℕ) (i : Records → List ℕ → Names → Answer Records) (s : Records) → import_step L i s (drop at t) ≡ (bound s (accepted s), drop r.next t)
   pub some : r.found ≡ true → Literal t at r
 
--- The path q: ok where it keeps the path rule.
-pub record JoinsPath (q : List ℕ) (r : Joined) : Type 0 where
-  pub fits : r.len ≤ 255
-  pub size : length r.bytes ≡ 255
-  pub says : r.ok ≡ is_path q
-  pub text : r.ok ≡ true → take r.len r.bytes ≡ q
+-- The path q, where it keeps the path rule.
+abbrev pub JoinsPath : List ℕ → Maybe Path → Type 0
+JoinsPath q (Some r) = (text r ≡ q) × (is_path q ≡ true)
+JoinsPath q None = is_path q ≡ false
 
 -- What an import comes to in the rules. b: the bundle; p: bytes that begin with the file's path.
 unfoldable pub comes_to : ℕ → View → ℕ → List ℕ → List ℕ → Target → Records → Names → Answer Records
@@ -66,9 +66,9 @@ Readable l b p (Refused k) = Unit {0}
 Readable l b p (Found_at a e m) = (0 < l) × (a ≤ e) × (e ≤ length b) × (m ≤ length p) × (all ascii (part b a e) ≡ true)
 
 -- A file of the bundle with the path p.
-pub record IsFile (levels : ℕ) (b : List ℕ) (start len : ℕ) (p : List ℕ) (r : Target) : Type 0 where
+pub record IsFile (levels : ℕ) (b : List ℕ) (c : Range) (p : List ℕ) (r : Target) : Type 0 where
   pub within : Readable levels b p r
-  pub says : (L : ℕ) (v : View) (s : Records) (n : Names) → (imported_sheet L v levels (parent p) (part b start (start + len)) >>= λ x. bind_names L s x n) ≡ comes_to L v levels b p r s n
+  pub says : (L : ℕ) (v : View) (s : Records) (n : Names) → (imported_sheet L v levels (parent p) (part b c.from c.to) >>= λ x. bind_names L s x n) ≡ comes_to L v levels b p r s n
 
 -- The path q, which the bytes z begin with.
 pub record OpensImport (v : View) (levels : ℕ) (b z q : List ℕ) (r : Target) : Type 0 where
@@ -135,42 +135,46 @@ join-long [] p = omega arith
 join-long (x ∷ xs) p = omega (arith, length-append (x ∷ xs) (47 ∷ p))
 
 module _ (g : List ℕ) {p path : List ℕ} {n : ℕ} (k : PathIn p path n) where
-  pub path-over : {z : List ℕ} → length z ≡ 255 → 256 < n → JoinsPath (join g p) (record { ok = false; len = 0; bytes = z })
-  path-over e h = record { fits = omega arith; size = e; says = path-long (join g p) (omega (arith, k.long h, join-long g p)); text = λ y. absurd (true≢false (sym y)) }
+  pub path-over : 256 < n → is_path (join g p) ≡ false
+  path-over h = sym (path-long (join g p) (omega (arith, k.long h, join-long g p)))
 
-  pub path-joined : n ≤ 256 → {j : Joined} {r : Bool} → Joins g (take n path) j → r ≡ is_path (take j.len j.bytes) → JoinsPath (join g p) (record { ok = j.ok && r; len = j.len; bytes = j.bytes })
-  path-joined h {j} {r} m e = record { fits = m.fits; size = m.size; says = at j.ok refl; text = λ y. is (and_l j.ok r y) }
-    where
-      is : j.ok ≡ true → take j.len j.bytes ≡ join g p
-      is y = m.text y ∙ ap (join g) (k.fits h)
+  module _ (h : n ≤ 256) where
+    pub joined-long : 255 < length (join g (take n path)) → is_path (join g p) ≡ false
+    joined-long z = let e = k.fits h in sym (path-long (join g p) (rw e at z))
 
-      at : (c : Bool) → j.ok ≡ c → (j.ok && r) ≡ is_path (join g p)
-      at true y = rw y (e ∙ ap is_path (is y))
-      at false y = rw y (path-long (join g p) (leb-false _ 255 (sym (m.says ∙ ap (λ z. leb (length (join g z)) 255) (k.fits h)) ∙ y)))
+    module _ {t : List ℕ} (e : t ≡ join g (take n path)) {c : Bool} (q : c ≡ is_path t) where
+      rule : is_path (join g p) ≡ c
+      rule = sym (rw (e ∙ ap (join g) (k.fits h)) at q)
+
+      pub joined_no : c ≡ false → is_path (join g p) ≡ false
+      joined_no z = rule ∙ z
+
+      pub joined_ok : c ≡ true → (t ≡ join g p) × (is_path (join g p) ≡ true)
+      joined_ok z = (e ∙ ap (join g) (k.fits h), rule ∙ z)
 
 -- FILES. With no level left; with a byte from 128; to be read.
-module _ (levels : ℕ) (b : List ℕ) (start len : ℕ) (p : List ℕ) where
-  pub file_seven : levels ≡ 0 → IsFile levels b start len p (Refused 7)
+module _ (levels : ℕ) (b : List ℕ) (f : Range) (p : List ℕ) where
+  pub file_seven : levels ≡ 0 → IsFile levels b f p (Refused 7)
   unfolding Readable comes_to imported_sheet ◌>>=◌
   file_seven h = record { within = tt; says = λ L v s n. rw h refl }
 
-  module _ (h : levels ≡ 0 → ⊥) {c : Bool} (a : c ≡ all ascii (part b start (start + len))) where
-    inner : (L : ℕ) (v : View) → imported_sheet L v levels (parent p) (part b start (start + len)) ≡ file_sheet L v (imported_sheet L v (levels - 1)) (parent p) (part b start (start + len))
+  module _ (h : levels ≡ 0 → ⊥) {c : Bool} (a : c ≡ all ascii (part b f.from f.to)) where
+    inner : (L : ℕ) (v : View) → imported_sheet L v levels (parent p) (part b f.from f.to) ≡ file_sheet L v (imported_sheet L v (levels - 1)) (parent p) (part b f.from f.to)
     unfolding imported_sheet
-    inner L v = let e : levels ≡ suc (levels - 1) = omega arith in ap (λ z. imported_sheet L v z (parent p) (part b start (start + len))) e
+    inner L v = let e : levels ≡ suc (levels - 1) = omega arith in ap (λ z. imported_sheet L v z (parent p) (part b f.from f.to)) e
 
-    pub file-six : c ≡ false → IsFile levels b start len p (Refused 6)
+    pub file-six : c ≡ false → IsFile levels b f p (Refused 6)
     unfolding Readable comes_to ◌>>=◌
     file-six e = record { within = tt; says = λ L v s n. ap (λ x. x >>= λ y. bind_names L s y n) (inner L v ∙ six L v) }
       where
-        six : (L : ℕ) (v : View) → file_sheet L v (imported_sheet L v (levels - 1)) (parent p) (part b start (start + len)) ≡ refused 6
+        six : (L : ℕ) (v : View) → file_sheet L v (imported_sheet L v (levels - 1)) (parent p) (part b f.from f.to) ≡ refused 6
         six L v = unfold file_sheet check ◌>>◌ in (rw (sym a ∙ e) refl)
 
-    pub file-read : c ≡ true → start + len ≤ length b → {m : ℕ} → Parent p m → IsFile levels b start len p (Found_at start (start + len) m)
+    pub file-read : c ≡ true → Within b f → {m : ℕ} → Parent p m → IsFile levels b f p (Found_at f.from f.to m)
     unfolding Readable comes_to
     file-read e l {m} r = record {
-      within = (omega arith, omega arith, l, r.inside, sym a ∙ e);
-      says = λ L v s n. ap (λ x. x >>= λ y. bind_names L s y n) (inner L v ∙ ap (λ z. file_sheet L v (imported_sheet L v (levels - 1)) z (part b start (start + len))) (sym r.text));
+      within = (omega arith, l.order, l.inside, r.inside, sym a ∙ e);
+      says = λ L v s n. ap (λ x. x >>= λ y. bind_names L s y n) (inner L v ∙ ap (λ z. file_sheet L v (imported_sheet L v (levels - 1)) z (part b f.from f.to)) (sym r.text));
     }
 
 -- The path in more bytes.
@@ -183,39 +187,30 @@ longer levels b z n (Found_at a e k) w h =
     let i : k ≤ n = omega (arith, w.3) in
     ((w.0, w.1, w.2, omega arith, w.4), λ L v s m. ap (λ y. file_sheet L v (imported_sheet L v (levels - 1)) y (part b a e) >>= λ r. bind_names L s r m) (take-take k n z i))
 
-pub found_inside : {b : List ℕ} {es : List Entry} {p : List ℕ} {f : Found} → Finds b es p f → {a m : ℕ} → f ≡ At a m → a + m ≤ length b
-found_inside F e = rw e at F.inside
+-- A path that breaks the path rule.
+pub open_four : (levels : ℕ) (b z : List ℕ) (v : View) {q : List ℕ} → is_path q ≡ false → OpensImport v levels b z q (Refused 4)
+unfolding Readable comes_to check ◌>>◌
+open_four levels b z v h = record { within = tt; says = λ L s n. rw h refl }
 
 -- A path, by what the bundle has there.
-module _ (levels : ℕ) (b : List ℕ) (es : List Entry) {q : List ℕ} {j : Joined} (k : JoinsPath q j) where
-  pub open_four : j.ok ≡ false → OpensImport (view es) levels b j.bytes q (Refused 4)
-  unfolding Readable comes_to check ◌>>◌
-  open_four h = record { within = tt; says = λ L s n. rw (sym k.says ∙ h) refl }
+module _ (levels : ℕ) (b : List ℕ) (es : List Entry) (j : Path) (h : is_path (text j) ≡ true) where
+  there : {f : Found} → Finds b es (text j) f → (L : ℕ) (s : Records) (n : Names) → (check 4 (is_path (text j)) >> import_file L (view es) (imported_sheet L (view es) levels) (text j) (view es (text j)) s n) ≡ import_file L (view es) (imported_sheet L (view es) levels) (text j) (file_at b f) s n
+  unfolding check ◌>>◌
+  there F L s n = rw h (ap (λ x. import_file L (view es) (imported_sheet L (view es) levels) (text j) x s n) F.seen)
 
-  module _ (h : j.ok ≡ true) {f : Found} (F : Finds b es (take j.len j.bytes) f) where
-    there : (L : ℕ) (s : Records) (n : Names) → (check 4 (is_path q) >> import_file L (view es) (imported_sheet L (view es) levels) q (view es q) s n) ≡ import_file L (view es) (imported_sheet L (view es) levels) q (file_at b f) s n
-    unfolding check ◌>>◌
-    there L s n = rw (sym k.says ∙ h) (ap (λ x. import_file L (view es) (imported_sheet L (view es) levels) q x s n) (ap (view es) (sym (k.text h)) ∙ F.seen))
+  pub open_absent : Finds b es (text j) Absent → OpensImport (view es) levels b j.bytes (text j) Nothing
+  unfolding Readable comes_to import_file file_at
+  open_absent F = record { within = tt; says = there F }
 
-    pub open_absent : f ≡ Absent → OpensImport (view es) levels b j.bytes q Nothing
-    unfolding Readable comes_to import_file file_at
-    open_absent e = record { within = tt; says = λ L s n. there L s n ∙ rw e refl }
+  pub open_folder : Finds b es (text j) Folder → OpensImport (view es) levels b j.bytes (text j) (Refused 5)
+  unfolding Readable comes_to import_file file_at
+  open_folder F = record { within = tt; says = there F }
 
-    pub open_folder : f ≡ Folder → OpensImport (view es) levels b j.bytes q (Refused 5)
-    unfolding Readable comes_to import_file file_at
-    open_folder e = record { within = tt; says = λ L s n. there L s n ∙ rw e refl }
-
-    pub open_file : {a m : ℕ} → f ≡ At a m → {r : Target} → IsFile levels b a m (take j.len j.bytes) r → OpensImport (view es) levels b j.bytes q r
-    unfolding import_file file_at
-    open_file {a} {m} e {r} I =
-        let o = longer levels b j.bytes j.len r I.within (omega (arith, k.fits, k.size)) in
-        let z : a + m - a ≡ m = omega arith in
-        record {
-          within = o.0;
-          says = λ L s n.
-              there L s n
-              ∙ rw e (ap (λ y. imported_sheet L (view es) levels (parent y) (take m (drop a b)) >>= λ r. bind_names L s r n) (sym (k.text h)) ∙ rw z at (I.says L (view es) s n) ∙ o.1 L (view es) s n);
-        }
+  pub open_file : {c : Range} → Finds b es (text j) (At c) → {r : Target} → IsFile levels b c (text j) r → OpensImport (view es) levels b j.bytes (text j) r
+  unfolding import_file file_at
+  open_file {c} F {r} I =
+      let o = longer levels b j.bytes j.len r I.within (omega (arith, j.fits, j.size)) in
+      record { within = o.0; says = λ L s n. there F L s n ∙ I.says L (view es) s n ∙ o.1 L (view es) s n }
 
 -- AN IMPORT.
 module _ (v : View) (levels : ℕ) (b g : List ℕ) {t : List ℕ} {at : ℕ} {m : Import} (R : ReadsImport t at m) where

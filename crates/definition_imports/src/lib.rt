@@ -1,17 +1,20 @@
 // The imports of a file of definitions (document 01, section 7), up to the file that one names.
 #![tactic(auto)]
 
-ghost use Rattle.std.specs.Prelude.{◌≡◌, true, List, ℕ, ◌+◌, ◌≤◌, length};
-ghost use Rattle.rules.specs.Bytes.{join};
+ghost use Rattle.std.specs.Prelude.{◌≡◌, true, List, ℕ, ◌≤◌, length};
+ghost use Rattle.rules.specs.Bytes.{is_path, join};
 ghost use Rattle.rules.specs.Bundle.{bundle_of};
 ghost use Rattle.rules.specs.Files.{view};
 ghost use Rattle.rules.specs.Answer.{is_some};
 ghost use Rattle.bundle.specs.Find.{entries_of};
+ghost use Rattle.paths.specs.Joined.{text};
+ghost use Rattle.bundle_entries.specs.Entries.{Within};
 ghost use Rattle.strings.specs.Paths.{PathIn};
 ghost use Rattle.definition_imports.specs.Import.{ReadsImport, JoinsPath, IsFile, OpensImport, ImportsAt};
 
 use bundle::Found;
-use paths::Joined;
+use paths::{Path, Range, is_path};
+use refusal::Refusal;
 use scan::Set;
 
 // An import, read from behind its mark: has it a literal; the first bytes of the literal's text, and the text's length, or more than 256
@@ -54,26 +57,19 @@ fn read_import(text: &[u8], at: usize) -> Import
     }
 }
 
-// Joins a path, the first n bytes, to a folder; ok where the joined path keeps the path rule.
-fn join_path(folder: &[u8], path: [u8; 256], n: usize) -> Joined
+// Joins a path, the first n bytes, to a folder; none where the joined path breaks the path rule.
+fn join_path(folder: &[u8], path: [u8; 256], n: usize) -> Option<Path>
     requires { length path ≡ 256 }
     ensures { (p : List ℕ) → PathIn p path n → JoinsPath (join folder.now p) result }
 {
     if 256 < n {
-        return Joined {
-            ok: false,
-            len: 0,
-            bytes: [0u8; 255],
-        };
+        return None;
     }
-    let j = paths::join(folder, &path[..n]);
-    let bytes = j.bytes;
-    let len = j.len;
-    Joined {
-        ok: j.ok & paths::is_path(&bytes[..len]),
-        len: len,
-        bytes: bytes,
+    let joined = paths::join(folder, &path[..n])?;
+    if !is_path(joined.as_bytes()) {
+        return None;
     }
+    Some(joined)
 }
 
 // What an import comes to before its file is read: nothing is bound, a refusal, or a file, whose folder is the start of its path.
@@ -88,40 +84,34 @@ pub enum Target {
     },
 }
 
-// The file at a place of the bundle, with so many levels left: 7, 6.
-fn file_target(b: &[u8], start: usize, len: usize, path: &[u8], levels: usize) -> Target
-    requires { start + len ≤ length b.now }
-    ensures { IsFile levels b.now start len path.now result }
+// A file whose content is this part of the bundle, with so many levels left: 7, 6.
+fn file_target(b: &[u8], content: Range, path: &[u8], levels: usize) -> Target
+    requires { Within b.now content }
+    ensures { IsFile levels b.now content path.now result }
 {
     if levels == 0 {
-        return Target::Refused(7);
+        return Target::Refused(u8::from(Refusal::Level));
     }
-    let end = start + len;
-    if !scan::is_ascii(&b[start..end]) {
-        return Target::Refused(6);
+    if !scan::is_ascii(&b[content.from..content.to]) {
+        return Target::Refused(u8::from(Refusal::Byte));
     }
     Target::File {
-        start: start,
-        end: end,
+        start: content.from,
+        end: content.to,
         parent: paths::parent(path),
     }
 }
 
-// What a joined path comes to: 4; passed over if there is neither file nor folder; 5 for a folder; 7, 6.
-fn open_import(b: &[u8], j: Joined, levels: usize) -> Target
-    requires { (is_some (bundle_of b.now) ≡ true) × (j.len ≤ 255) × (length j.bytes ≡ 255) }
-    ensures { (q : List ℕ) → JoinsPath q j → OpensImport (view (entries_of b.now)) levels b.now j.bytes q result }
+// What a joined path comes to: passed over if there is neither file nor folder; 5 for a folder; 7, 6.
+fn open_import(b: &[u8], path: Path, levels: usize) -> Target
+    requires { (is_some (bundle_of b.now) ≡ true) × (is_path (text path) ≡ true) }
+    ensures { OpensImport (view (entries_of b.now)) levels b.now path.bytes (text path) result }
 {
-    if !j.ok {
-        return Target::Refused(4);
-    }
-    let bytes = j.bytes;
-    let n = j.len;
-    let f = bundle::find(b, &bytes[..n]);
-    match f {
+    let bytes = path.as_bytes();
+    match bundle::find(b, bytes) {
         Found::Absent => Target::Nothing,
-        Found::Folder => Target::Refused(5),
-        Found::File { start, len } => file_target(b, start, len, &bytes[..n], levels),
+        Found::Folder => Target::Refused(u8::from(Refusal::File)),
+        Found::File(content) => file_target(b, content, bytes, levels),
     }
 }
 
@@ -134,7 +124,7 @@ pub struct Imported {
     pub next: usize,
 }
 
-// Reads an import of a file in a folder, from behind its mark, and looks its file up.
+// Reads an import of a file in a folder, from behind its mark, and looks its file up: 4 for a path that breaks the path rule.
 pub fn find_import(b: &[u8], folder: &[u8], text: &[u8], at: usize, levels: usize) -> Imported
     requires { (is_some (bundle_of b.now) ≡ true) × (at ≤ length text.now) }
     ensures { ImportsAt (view (entries_of b.now)) levels b.now folder.now text.now at result }
@@ -149,9 +139,16 @@ pub fn find_import(b: &[u8], folder: &[u8], text: &[u8], at: usize, levels: usiz
         };
     }
     let path = m.path;
-    let j = join_path(folder, path, m.len);
-    let bytes = j.bytes;
-    let target = open_import(b, j, levels);
+    let Some(joined) = join_path(folder, path, m.len) else {
+        return Imported {
+            target: Target::Refused(u8::from(Refusal::Path)),
+            path: [0u8; 255],
+            names: m.names,
+            next: m.next,
+        };
+    };
+    let bytes = joined.bytes;
+    let target = open_import(b, joined, levels);
     Imported {
         target: target,
         path: bytes,

@@ -28,8 +28,7 @@ use Rattle.buffers.specs.Emits.{guard, guarded, limited-guarded}
 use Rattle.sheet.specs.Find.{IsSheet}
 use Rattle.places.specs.Mark.{Mark, mark-start}
 use Rattle.binding.specs.Use.{within-limit, Holds, holds-sheet, Keeps, keeps-holds}
-use Rattle.binding.specs.declared.Bound.{Bound}
-use Rattle.binding.specs.declared.Bound.TheVariants.{Over, Length}
+use Rattle.std.specs.Prelude.{Option as RustOption, Some, None}
 use Rattle.values.specs.Values.{slots, Room, room-two, room-behind, lent, lent-size, lent-first}
 use Rattle.imported_names.specs.Names.{Ready, IsBound, BindsNames}
 use Rattle.definitions.specs.Steps.{Comes, DefinesLet}
@@ -43,9 +42,9 @@ abbrev pub stepped : Bool → ℕ → ℕ → ℕ → ℕ → Stepped
 stepped o k at len last = record { ok = o; number = k; at = at; len = len; last = last }
 
 -- A step that came to a binding: 9, or the sheet's new length.
-unfoldable pub bound_step : Bound → ℕ → ℕ → Stepped
-bound_step Over at n = stepped false 9 at n 0
-bound_step (Length len) at n = stepped true 0 at len 0
+unfoldable pub bound_step : RustOption ℕ → ℕ → ℕ → Stepped
+bound_step None at n = stepped false 9 at n 0
+bound_step (Some len) at n = stepped true 0 at len 0
 
 -- The step f at a place, for the records in the first n bytes of l, which leaves m; the next step may search from r.last.
 pub record Steps (limit : ℕ) (f : Step Records) (t : List ℕ) (at : ℕ) (l : List ℕ) (n : ℕ) (m : List ℕ) (r : Stepped) : Type 0 where
@@ -66,7 +65,7 @@ pub record Swap (l : List ℕ) (m : ℕ) (w : List ℕ) (n limit : ℕ) : Type 0
   pub other : IsSheet (take m l)
 
 -- The names of the sheet in l are bound in the one that is saved in w; c holds what that comes to.
-pub record BindsImported (limit : ℕ) (ns : Names) (l : List ℕ) (m : ℕ) (w : List ℕ) (n : ℕ) (c : List ℕ) (o : Bound) : Type 0 where
+pub record BindsImported (limit : ℕ) (ns : Names) (l : List ℕ) (m : ℕ) (w : List ℕ) (n : ℕ) (c : List ℕ) (o : RustOption ℕ) : Type 0 where
   pub size : length c ≡ length l
   pub binds : (s r : Records) → Holds s w n limit → Holds r l m limit → IsBound limit (bind_names limit s r ns) c o
 
@@ -81,11 +80,11 @@ pub record Parses (limit : ℕ) (a : Answer Records) (l c w o : List ℕ) (r : P
 pub steps_as : {limit : ℕ} {f : Step Records} {t : List ℕ} {at : ℕ} {l : List ℕ} {n : ℕ} {m : List ℕ} {r q : Stepped} → r ≡ q → Steps limit f t at l n m q → Steps limit f t at l n m r
 steps_as e h = rw e h
 
-pub over-step : {o : Bound} {at n : ℕ} {r : Stepped} → o ≡ Over → r ≡ stepped false 9 at n 0 → r ≡ bound_step o at n
+pub over-step : {o : RustOption ℕ} {at n : ℕ} {r : Stepped} → o ≡ None → r ≡ stepped false 9 at n 0 → r ≡ bound_step o at n
 unfolding bound_step
 over-step e h = h ∙ rw e refl
 
-pub length-step : {o : Bound} {at m : ℕ} (n : ℕ) {r : Stepped} → o ≡ Length m → r ≡ stepped true 0 at m 0 → r ≡ bound_step o at n
+pub length-step : {o : RustOption ℕ} {at m : ℕ} (n : ℕ) {r : Stepped} → o ≡ Some m → r ≡ stepped true 0 at m 0 → r ≡ bound_step o at n
 unfolding bound_step
 length-step n e h = h ∙ rw e refl
 
@@ -105,10 +104,10 @@ module _ {limit : ℕ} {d : Did Records × List ℕ} {t : List ℕ} {s : Records
     stops = λ z. ap (λ q. guard sheet_length limit q.0) e ∙ within-limit (bound s (refused k)) refl h;
   }
 
-  comes-bound : {a : Answer Records} {c : List ℕ} (o : Bound) → d ≡ (bound s a, drop at t) → IsBound limit a c o → Comes limit d t c (bound_step o at n)
+  comes-bound : {a : Answer Records} {c : List ℕ} (o : RustOption ℕ) → d ≡ (bound s a, drop at t) → IsBound limit a c o → Comes limit d t c (bound_step o at n)
   unfolding bound_step bound
-  comes-bound Over e w = comes-refused (e ∙ ap (λ x. (bound s x, drop at t)) (w.over refl))
-  comes-bound {c = c} (Length len) e w =
+  comes-bound None e w = comes-refused (e ∙ ap (λ x. (bound s x, drop at t)) (w.over refl))
+  comes-bound {c = c} (Some len) e w =
       let y = w.bound len refl in
       let g = e ∙ ap (λ x. (bound s x, drop at t)) y.1 in
       record {
@@ -194,19 +193,19 @@ module _ (limit levels : ℕ) (v : View) (b g : List ℕ) {t : List ℕ} {at : �
     import-stopped f = import-steps Z.size refl (λ z. absurd (true≢false (sym z))) (λ s h. comes-refused h _ (file-comes s _ (Z.stops f)))
 
     -- The names are bound in the sheet that was saved in w.
-    module _ (f : r.ok ≡ true) {w : List ℕ} {c₂ : List ℕ} {d : Bound} (j : take n w ≡ take n l) (B : BindsImported limit (names (drop m.names t)).0 c r.len w n c₂ d) where
+    module _ (f : r.ok ≡ true) {w : List ℕ} {c₂ : List ℕ} {d : RustOption ℕ} (j : take n w ≡ take n l) (B : BindsImported limit (names (drop m.names t)).0 c r.len w n c₂ d) where
       came : {s : Records} → Holds s l n limit → IsBound limit (bind_names limit s (Z.goes f).0 (names (drop m.names t)).0) c₂ d
       came {s} h = B.binds s (Z.goes f).0 (record { bytes = j ∙ h.bytes; long = h.long; fits = h.fits; good = h.good }) (Z.goes f).2
 
-      bound_at : (d : Bound) → (bound_step d m.next n).at ≡ m.next
+      bound_at : (d : RustOption ℕ) → (bound_step d m.next n).at ≡ m.next
       unfolding bound_step
-      bound_at Over = refl
-      bound_at (Length k) = refl
+      bound_at None = refl
+      bound_at (Some k) = refl
 
-      bound-mark : (d : Bound) {a : Answer Records} → IsBound limit a c₂ d → (bound_step d m.next n).ok ≡ true → Mark (take (bound_step d m.next n).len c₂) (bound_step d m.next n).last
+      bound-mark : (d : RustOption ℕ) {a : Answer Records} → IsBound limit a c₂ d → (bound_step d m.next n).ok ≡ true → Mark (take (bound_step d m.next n).len c₂) (bound_step d m.next n).last
       unfolding bound_step
-      bound-mark Over h z = absurd (true≢false (sym z))
-      bound-mark (Length k) h z = mark-start (holds-sheet (h.bound k refl).2)
+      bound-mark None h z = absurd (true≢false (sym z))
+      bound-mark (Some k) h z = mark-start (holds-sheet (h.bound k refl).2)
 
       pub import-bound : Keeps l n limit → Steps limit (definition_step limit (imported limit v (imported_sheet limit v levels) g)) t at l n c₂ (bound_step d m.next n)
       unfolding ◌>>=◌
@@ -252,7 +251,7 @@ module _ {l : List ℕ} {m : ℕ} {w : List ℕ} {n limit : ℕ} (k : Swap l m w
   pub swap-ready : Ready (part moved limit (limit + m)) back n limit
   swap-ready = record { keeps = record { fits = k.fits; room = omega (arith, length-sets l 0 (take n moved), k.room); most = k.most; sheet = rw saved k.kept }; from = rw other k.other }
 
-  pub swap-bound : {ns : Names} {c : List ℕ} {o : Bound} → BindsNames ns (part moved limit (limit + m)) back n limit c o → BindsImported limit ns l m w n c o
+  pub swap-bound : {ns : Names} {c : List ℕ} {o : RustOption ℕ} → BindsNames ns (part moved limit (limit + m)) back n limit c o → BindsImported limit ns l m w n c o
   swap-bound B = record {
     size = B.size ∙ length-sets l 0 (take n moved);
     binds = λ s r h g. B.binds (record { r = s; bytes = saved ∙ h.bytes; good = h.good }) (record { r = r; bytes = other ∙ g.bytes; good = g.good });

@@ -21,7 +21,7 @@ use Rattle.places.specs.Mark.{Mark, Marked, mark_of}
 use Rattle.binding.specs.Write.{IsSource, BindsAt}
 use Rattle.binding.specs.Use.{within-limit, Holds, holds-sheet, Keeps, keeps-holds, leaves-bytes, leaves-over}
 use Rattle.binding.specs.declared.Put.{Put}
-use Rattle.binding.specs.declared.Bound.TheVariants.{Over, Length}
+use Rattle.std.specs.Prelude.{Option as RustOption, Some, None}
 use Rattle.values.specs.declared.ValueRead.{ValueRead}
 use Rattle.values.specs.Values.{Taken, ReadsValue}
 use Rattle.definitions.specs.declared.steps.Stepped.{Stepped}
@@ -83,7 +83,7 @@ module _ (limit : ℕ) {t : List ℕ} {at a b e : ℕ} (X : Spans blank t at a) 
       unfolding let_bound
       let-is i {s} g = let-reads i s ∙ λ y. (let_bound s (underscored (part t a b)) ((taken g).is y), (taken g).rest y)
 
-      module _ {last : ℕ} {m : List ℕ} {o : Put} (B : (x : Value) → IsSource x v.bit v.count (take v.len w₂) → BindsAt l n last limit (underscored_if true (part t a b)) x m o) where
+      module _ {last : ℕ} {m : List ℕ} {o : RustOption Put} (B : (x : Value) → IsSource x v.bit v.count (take v.len w₂) → BindsAt l n last limit (underscored_if true (part t a b)) x m o) where
         binds : {s : Records} (g : Holds s l n limit) → BindsAt l n last limit (underscored (part t a b)) (taken g).v m o
         unfolding underscored_if
         binds g = B (taken g).v (taken g).source
@@ -96,7 +96,7 @@ module _ (limit : ℕ) {t : List ℕ} {at a b e : ℕ} (X : Spans blank t at a) 
             marked : {s : Records} → Holds s l n limit → Marked (take n l) s last
             marked g = mark_of p g.bytes g.good
 
-            pub let-over : o.bound ≡ Over → DefinesLet limit t at l n m (record { ok = false; number = 9; at = v.at; len = n; last = 0 })
+            pub let-over : o ≡ None → DefinesLet limit t at l n m (record { ok = false; number = 9; at = v.at; len = n; last = 0 })
             unfolding bound
             let-over y = record {
               size = let-size;
@@ -109,11 +109,11 @@ module _ (limit : ℕ) {t : List ℕ} {at a b e : ℕ} (X : Spans blank t at a) 
               mark = λ z. absurd (true≢false (sym z));
             }
 
-            module _ (u : all ascii t ≡ true) {q : ℕ} (y : o.bound ≡ Length q) where
-              let-comes : (i : Records → List ℕ → Names → Answer Records) {s : Records} (g : Holds s l n limit) → Holds (let_step limit i s (drop at t)).0.state m q limit
+            module _ (u : all ascii t ≡ true) {q : Put} (y : o ≡ Some q) where
+              let-comes : (i : Records → List ℕ → Names → Answer Records) {s : Records} (g : Holds s l n limit) → Holds (let_step limit i s (drop at t)).0.state m q.len limit
               unfolding bound
               let-comes i {s} g =
-                  let x = leaves-bytes m limit (set s (underscored (part t a b)) (taken g).v) q (rw y at ((binds g).leaves s (marked g))) in
+                  let x = leaves-bytes m limit (set s (underscored (part t a b)) (taken g).v) q.len (rw y at ((binds g).leaves s (marked g))) in
                   let j = let-is i g in
                   record {
                     bytes = x.1 ∙ ap (λ z. encode z.0.state) (sym j);
@@ -122,16 +122,16 @@ module _ (limit : ℕ) {t : List ℕ} {at a b e : ℕ} (X : Spans blank t at a) 
                     good = good-let limit i s (drop at t) (all_right ascii (take at t) (drop at t) (ap (all ascii) (take-append-drop at t) ∙ u)) g.good;
                   }
 
-              let-mark : Mark (take q m) o.at
+              let-mark : Mark (take q.len m) q.at
               unfolding bound
               let-mark =
                   let g = keeps-holds k in
                   record {
                     sheet = holds-sheet (let-comes same g);
-                    between = subst (λ z. Between z.0.state o.at) (sym (let-is same g)) ((binds g).between k.sheet.r (marked g));
+                    between = subst (λ z. Between z.0.state q.at) (sym (let-is same g)) ((binds g).between k.sheet.r (marked g) q y);
                   }
 
-              pub let-bound : DefinesLet limit t at l n m (record { ok = true; number = 0; at = v.at; len = q; last = o.at })
+              pub let-bound : DefinesLet limit t at l n m (record { ok = true; number = 0; at = v.at; len = q.len; last = q.at })
               unfolding bound
               let-bound = record {
                 size = let-size;

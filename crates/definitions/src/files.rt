@@ -16,7 +16,6 @@ ghost use Rattle.places.specs.Mark.{Mark};
 ghost use Rattle.definitions.specs.File.{stepped, bound_step, Steps, Swap, BindsImported, Parses};
 
 use crate::steps::{Stepped, let_step};
-use binding::Bound;
 use definition_imports::{Target, find_import};
 use imported_names::bind_names;
 
@@ -65,7 +64,7 @@ fn bind_imported(
     n: usize,
     limit: usize,
     work: &mut [u8],
-) -> Bound
+) -> Option<usize>
     requires { (list ≤ length text.now) × Swap left.old m work.old n limit }
     ensures { (length work.new ≡ length work.old) × BindsImported limit (names (drop list text.now)).0 left.old m work.old n left.new result }
 {
@@ -76,12 +75,12 @@ fn bind_imported(
 }
 
 // A step that came to a binding.
-fn bound_step(bound: Bound, at: usize, n: usize) -> Stepped
+fn bound_step(bound: Option<usize>, at: usize, n: usize) -> Stepped
     ensures { result ≡ bound_step bound at n }
 {
     match bound {
-        Bound::Over => ended(false, 9, at, n, 0),
-        Bound::Length(len) => ended(true, 0, at, len, 0),
+        None => ended(false, 9, at, n, 0),
+        Some(len) => ended(true, 0, at, len, 0),
     }
 }
 

@@ -7,7 +7,7 @@ ghost use Rattle.values.specs.Values.{Room};
 ghost use Rattle.binding.specs.Use.{Keeps};
 ghost use Rattle.definitions.specs.Steps.{DefinesLet};
 
-use binding::Bound;
+use record_bytes::Lead;
 use scan::Set;
 
 // What a step came to: is nothing refused; if something is, the refusal's number; where reading goes on, the sheet's length, and where
@@ -48,6 +48,10 @@ pub fn let_step(
         };
     }
     let len = v.len;
+    let lead = Lead {
+        bit: v.bit,
+        count: v.count,
+    };
     let o = binding::bind_value_at(
         left,
         n,
@@ -55,25 +59,23 @@ pub fn let_step(
         limit,
         &text[from..to],
         true,
-        v.bit,
-        v.count,
+        lead,
         &work[..len],
     );
-    let bound = o.bound;
-    match bound {
-        Bound::Over => Stepped {
+    match o {
+        None => Stepped {
             ok: false,
             number: 9,
             at: v.at,
             len: n,
             last: 0,
         },
-        Bound::Length(m) => Stepped {
+        Some(put) => Stepped {
             ok: true,
             number: 0,
             at: v.at,
-            len: m,
-            last: o.at,
+            len: put.len,
+            last: put.at,
         },
     }
 }

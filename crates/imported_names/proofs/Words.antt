@@ -9,8 +9,7 @@ use Rattle.rules.proofs.Laws.Entries.{word-moving}
 use Rattle.rules.proofs.Laws.Enough.{rounds-again, rounds-stop}
 use Rattle.scan.specs.Sets.{part, Spans, Starts}
 use Rattle.scan.specs.Laws.{mark-yes, mark-no, mark_of, prefix-split}
-use Rattle.binding.specs.declared.Bound.{Bound}
-use Rattle.binding.specs.declared.Bound.TheVariants.{Over, Length}
+use Rattle.std.specs.Prelude.{Option as RustOption, Some, None}
 use Rattle.imported_names.specs.Names.{Ready, BindsNames}
 use Rattle.imported_names.specs.Words.{words}
 use Rattle.imported_names.proofs.Names.{names_as, none-bound, names-over, names-then, ready_on}
@@ -67,18 +66,18 @@ pub record BindingMore (t : List ℕ) (at : ℕ) (z b : List ℕ) (n limit : ℕ
   pub inside : i ≤ length t
   pub size : length c ≡ length b
   pub ready : Ready z c len limit
-  pub goes : (d : List ℕ) (o : Bound) → BindsNames (listed (later (drop i t))) z c len limit d o → BindsNames (rounds word_round listed [] (drop at t)).0 z b n limit d o
+  pub goes : (d : List ℕ) (o : RustOption ℕ) → BindsNames (listed (later (drop i t))) z c len limit d o → BindsNames (rounds word_round listed [] (drop at t)).0 z b n limit d o
 
 pub more-start : (t : List ℕ) (at : ℕ) {z b : List ℕ} {n limit : ℕ} → at ≤ length t → Ready z b n limit → BindingMore t at z b n limit b n at
 more-start t at h p = record { inside = h; size = refl; ready = p; goes = λ d o w. names_as (sym (later-rounds [] (drop at t))) w }
 
 -- The spaces behind i end at j.
 module _ {t : List ℕ} {at : ℕ} {z b : List ℕ} {n limit : ℕ} {c : List ℕ} {len i : ℕ} (k : BindingMore t at z b n limit c len i) {j : ℕ} (x : Spans (the " ") t i j) {f : Bool} (m : Starts (bytes ",") t j f) where
-  pub more-end : f ≡ false → BindsNames (rounds word_round listed [] (drop at t)).0 z b n limit c (Length len)
+  pub more-end : f ≡ false → BindsNames (rounds word_round listed [] (drop at t)).0 z b n limit c (Some len)
   more-end e =
       let u : (mark (bytes ",") (span (the " ") (drop i t)).1).0 ≡ false = rw x.rest (ap (λ q. q.0) (mark-no m e)) in
       let v : listed (later (drop i t)) ≡ listed [] = sym (later-rounds [] (drop i t)) ∙ ap (λ q. q.0) (rounds-stop word_round listed word-moving [] (listed []) (drop i t) (round-no [] (drop i t) u)) in
-      k.goes c (Length len) (names_as (sym v) (none-bound k.ready))
+      k.goes c (Some len) (names_as (sym v) (none-bound k.ready))
 
   module _ (h : f ≡ true) {a e : ℕ} (y : Spans (the " ") t (j + 1) a) (w : Spans word t a e) where
     round-on : word_round [] (drop i t) ≡ (again (listed_more [] (part t a e)), drop e t)
@@ -91,11 +90,11 @@ module _ {t : List ℕ} {at : ℕ} {z b : List ℕ} {n limit : ℕ} {c : List �
         let r = rounds-again word_round listed word-moving [] ws (drop i t) (ap (λ q. q.0) round-on) ∙ ap (λ q. rounds word_round listed ws q.1) round-on in
         sym (later-rounds ws (drop e t)) ∙ ap (λ q. q.0) (sym r) ∙ later-rounds [] (drop i t)
 
-    module _ {d : List ℕ} {o : Bound} (v : BindsNames (listed (listed_more [] (part t a e))) z c len limit d o) where
-      pub more-over : o ≡ Over → BindsNames (rounds word_round listed [] (drop at t)).0 z b n limit d Over
-      more-over q = k.goes d Over (names_as later-on (names-over (later (drop e t)) v q))
+    module _ {d : List ℕ} {o : RustOption ℕ} (v : BindsNames (listed (listed_more [] (part t a e))) z c len limit d o) where
+      pub more-over : o ≡ None → BindsNames (rounds word_round listed [] (drop at t)).0 z b n limit d None
+      more-over q = k.goes d None (names_as later-on (names-over (later (drop e t)) v q))
 
-      pub more-on : {l : ℕ} → o ≡ Length l → BindingMore t at z b n limit d l e
+      pub more-on : {l : ℕ} → o ≡ Some l → BindingMore t at z b n limit d l e
       more-on q = record {
         inside = w.inside;
         size = v.size ∙ k.size;
@@ -104,15 +103,15 @@ module _ {t : List ℕ} {at : ℕ} {z b : List ℕ} {n limit : ℕ} {c : List �
       }
 
 -- WORDS: the first, which ends at i, and those behind it.
-module _ {t : List ℕ} {at i : ℕ} (x : Spans word t at i) {z b : List ℕ} {n limit : ℕ} {c : List ℕ} {o : Bound} (w : BindsNames (listed (part t at i ∷ [])) z b n limit c o) where
+module _ {t : List ℕ} {at i : ℕ} (x : Spans word t at i) {z b : List ℕ} {n limit : ℕ} {c : List ℕ} {o : RustOption ℕ} (w : BindsNames (listed (part t at i ∷ [])) z b n limit c o) where
   words_are : listed ((part t at i ∷ []) ++ later (drop i t)) ≡ (words (drop at t)).0
   unfolding words ◌>>=◌
   words_are = rw (x.took, x.rest) (sym (later-rounds (part t at i ∷ []) (drop i t)))
 
-  pub words-over : o ≡ Over → BindsNames (words (drop at t)).0 z b n limit c Over
+  pub words-over : o ≡ None → BindsNames (words (drop at t)).0 z b n limit c None
   words-over e = names_as words_are (names-over (later (drop i t)) w e)
 
-  pub words-then : {m : ℕ} {d : List ℕ} {o' : Bound} → o ≡ Length m → BindsNames (rounds word_round listed [] (drop i t)).0 z c m limit d o' → BindsNames (words (drop at t)).0 z b n limit d o'
+  pub words-then : {m : ℕ} {d : List ℕ} {o' : RustOption ℕ} → o ≡ Some m → BindsNames (rounds word_round listed [] (drop i t)).0 z c m limit d o' → BindsNames (words (drop at t)).0 z b n limit d o'
   words-then e v = names_as words_are (names-then (later (drop i t)) w e (names_as (later-rounds [] (drop i t)) v))
 
 -- NAMES: all or words.

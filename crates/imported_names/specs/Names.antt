@@ -9,8 +9,7 @@ use Rattle.rules.specs.Definitions.{Names}
 use Rattle.rules.specs.Imports.{bind_names}
 use Rattle.sheet.specs.Find.{IsSheet}
 use Rattle.binding.specs.Use.{Keeps, Holds}
-use Rattle.binding.specs.declared.Bound.{Bound}
-use Rattle.binding.specs.declared.Bound.TheVariants.{Over, Length}
+use Rattle.std.specs.Prelude.{Option as RustOption, Some, None}
 
 -- The first n bytes of b are a sheet, which may grow up to the limit; z is another.
 pub record Ready (z b : List ℕ) (n limit : ℕ) : Type 0 where
@@ -22,11 +21,11 @@ abbrev pub IsWord : List ℕ → Type 0
 IsWord w = all word w ≡ true
 
 -- What the answer a came to: refused with 9, or c holds its records.
-pub record IsBound (limit : ℕ) (a : Answer Records) (c : List ℕ) (o : Bound) : Type 0 where
-  pub over : o ≡ Over → a ≡ refused 9
-  pub bound : (m : ℕ) → o ≡ Length m → (s : Records) × (a ≡ accepted s) × Holds s c m limit
+pub record IsBound (limit : ℕ) (a : Answer Records) (c : List ℕ) (o : RustOption ℕ) : Type 0 where
+  pub over : o ≡ None → a ≡ refused 9
+  pub bound : (m : ℕ) → o ≡ Some m → (s : Records) × (a ≡ accepted s) × Holds s c m limit
 
 -- The names that the sheet z has are bound in the sheet in the first n bytes of b.
-pub record BindsNames (names : Names) (z b : List ℕ) (n limit : ℕ) (c : List ℕ) (o : Bound) : Type 0 where
+pub record BindsNames (names : Names) (z b : List ℕ) (n limit : ℕ) (c : List ℕ) (o : RustOption ℕ) : Type 0 where
   pub size : length c ≡ length b
   pub binds : (s : IsSheet (take n b)) (r : IsSheet z) → IsBound limit (bind_names limit s.r r.r names) c o

@@ -7,12 +7,11 @@ ghost use Rattle.rules.specs.Definitions.{star, listed, listed_more, word_round,
 ghost use Rattle.imported_names.specs.Names.{Ready, IsWord, BindsNames};
 ghost use Rattle.imported_names.specs.Words.{words};
 
-use binding::Bound;
 use scan::Set;
-use sheet::lookup::{Found, item, skip, value};
+use sheet::lookup::{item, skip, value};
 
 // Binds all names of the sheet `other`, in their order.
-fn bind_all(other: &[u8], left: &mut [u8], n: usize, limit: usize) -> Bound
+fn bind_all(other: &[u8], left: &mut [u8], n: usize, limit: usize) -> Option<usize>
     requires { Ready other.now left.old n limit }
     ensures { BindsNames star other.now left.old n limit left.new result }
 {
@@ -20,46 +19,46 @@ fn bind_all(other: &[u8], left: &mut [u8], n: usize, limit: usize) -> Bound
     let mut i: usize = 0;
     while i < other.len() {
         let o = item(other, i);
-        let from = o.from;
-        let to = o.to;
+        let name = &other[o.name.from..o.name.to];
         let end = skip(other, o.next, o.count);
-        let v = value(other, o);
-        let bound = binding::bind_from(left, len, limit, &other[from..to], false, other, v);
-        let Bound::Length(k) = bound else {
-            return Bound::Over;
-        };
-        len = k;
+        len = binding::bind_from(left, len, limit, name, false, other, value(other, o))?;
         i = end;
     }
-    Bound::Length(len)
+    Some(len)
 }
 
 // Looks a word up in the sheet `other`, and binds it where it is found.
-fn bind_word(word: &[u8], other: &[u8], left: &mut [u8], n: usize, limit: usize) -> Bound
+fn bind_word(word: &[u8], other: &[u8], left: &mut [u8], n: usize, limit: usize) -> Option<usize>
     requires { IsWord word.now × Ready other.now left.old n limit }
     ensures { BindsNames (listed (word.now ∷ [])) other.now left.old n limit left.new result }
 {
-    let found = sheet::lookup::lookup(other, word, false);
-    match found {
-        Found::Missing => Bound::Length(n),
-        _ => binding::bind_from(left, n, limit, word, false, other, found),
+    match sheet::lookup::lookup(other, word, false) {
+        None => Some(n),
+        Some(found) => binding::bind_from(left, n, limit, word, false, other, found),
     }
 }
 
 // Binds a word behind the first; the empty one is dropped.
-fn bind_later(word: &[u8], other: &[u8], left: &mut [u8], n: usize, limit: usize) -> Bound
+fn bind_later(word: &[u8], other: &[u8], left: &mut [u8], n: usize, limit: usize) -> Option<usize>
     requires { IsWord word.now × Ready other.now left.old n limit }
     ensures { BindsNames (listed (listed_more [] word.now)) other.now left.old n limit left.new result }
 {
     let empty = word.len() == 0;
     if empty {
-        return Bound::Length(n);
+        return Some(n);
     }
     bind_word(word, other, left, n, limit)
 }
 
 // Binds the words that stand at a place, each behind a `,` with spaces.
-fn bind_more(text: &[u8], at: usize, other: &[u8], left: &mut [u8], n: usize, limit: usize) -> Bound
+fn bind_more(
+    text: &[u8],
+    at: usize,
+    other: &[u8],
+    left: &mut [u8],
+    n: usize,
+    limit: usize,
+) -> Option<usize>
     requires { (at ≤ length text.now) × Ready other.now left.old n limit }
     ensures { BindsNames (rounds word_round listed [] (drop at text.now)).0 other.now left.old n limit left.new result }
 {
@@ -68,15 +67,11 @@ fn bind_more(text: &[u8], at: usize, other: &[u8], left: &mut [u8], n: usize, li
     loop {
         let comma = scan::span(text, i, Set::Space);
         if !scan::starts_with(text, comma, b",") {
-            return Bound::Length(len);
+            return Some(len);
         }
         let from = scan::span(text, comma + 1, Set::Space);
         let to = scan::span(text, from, Set::Word);
-        let bound = bind_later(&text[from..to], other, left, len, limit);
-        let Bound::Length(k) = bound else {
-            return Bound::Over;
-        };
-        len = k;
+        len = bind_later(&text[from..to], other, left, len, limit)?;
         i = to;
     }
 }
@@ -89,15 +84,12 @@ fn bind_listed(
     left: &mut [u8],
     n: usize,
     limit: usize,
-) -> Bound
+) -> Option<usize>
     requires { (at ≤ length text.now) × Ready other.now left.old n limit }
     ensures { BindsNames (words (drop at text.now)).0 other.now left.old n limit left.new result }
 {
     let end = scan::span(text, at, Set::Word);
-    let first = bind_word(&text[at..end], other, left, n, limit);
-    let Bound::Length(len) = first else {
-        return Bound::Over;
-    };
+    let len = bind_word(&text[at..end], other, left, n, limit)?;
     bind_more(text, end, other, left, len, limit)
 }
 
@@ -109,7 +101,7 @@ pub fn bind_names(
     left: &mut [u8],
     n: usize,
     limit: usize,
-) -> Bound
+) -> Option<usize>
     requires { (at ≤ length text.now) × Ready other.now left.old n limit }
     ensures { BindsNames (names (drop at text.now)).0 other.now left.old n limit left.new result }
 {

@@ -1,7 +1,7 @@
 -- `#import` and `#let`: the lines that bind.
 use Rattle.std.specs.Prelude.{◌≡◌, refl, List, true, false, ℕ, ◌≤◌, ◌<◌, length, take, drop}
 use Rattle.std.proofs.Common.{sym, ap, ◌∙◌, true≢false, arith}
-use Rattle.std.proofs.Math.Option.{none, some}
+use Rattle.std.proofs.Math.Option.{none}
 use Rattle.rules.specs.Reader.{ret, ◌>>=◌, ◌>>◌, but, either, all}
 use Rattle.rules.specs.Bytes.{ascii, line_blank, word, name_byte, underscored}
 use Rattle.rules.specs.Sheet.{Value, text, Records, encode, sheet_length, good_records, Lookup, resolve, set}
@@ -12,16 +12,13 @@ use Rattle.rules.proofs.Laws.Texts.{underscored-words}
 use Rattle.scan.specs.Sets.{part, Spans, Skips}
 use Rattle.scan.specs.Stretches.{span-took, all-part}
 use Rattle.paths.specs.Paths.{Trims}
-use Rattle.paths.specs.declared.Range.{Range}
+use Rattle.scan.specs.declared.Range.{Range}
 use Rattle.sheet.specs.Order.{underscored_if}
-use Rattle.sheet.specs.Find.{IsSheet, Gives}
+use Rattle.std.specs.Prelude.{Option as RustOption, Some, None}
+use Rattle.sheet.specs.Find.{IsSheet, Tells, Gives, gives_one}
 use Rattle.binding.specs.Write.{BindsTo, IsThere}
-use Rattle.sheet.specs.Use.{found-there}
 use Rattle.binding.specs.Use.{Holds, bound-bytes, over-long}
 use Rattle.sheet.specs.declared.lookup.Found.{Found}
-use Rattle.sheet.specs.declared.lookup.Found.TheVariants.{Missing}
-use Rattle.binding.specs.declared.Bound.{Bound}
-use Rattle.binding.specs.declared.Bound.TheVariants.{Over, Length}
 use Rattle.let_steps.specs.declared.Line.{Line}
 use Rattle.let_steps.specs.declared.Let.{Let}
 
@@ -43,7 +40,7 @@ pub record IsLine (t : List ℕ) (at : ℕ) (r : Line) : Type 0 where
   pub does : (look : Lookup) (s : Records) → let_step look s (drop at t) ≡ (binds (set s (underscored (part t r.from r.to)) (let_value (part t r.start r.end) (look (part t r.start r.end)))), drop r.next t)
 
 -- The name is bound in the first n bytes of b to the text v, or to what that is looked up as.
-pub record BindsLine (b : List ℕ) (n limit : ℕ) (name v c : List ℕ) (o : Bound) : Type 0 where
+pub record BindsLine (b : List ℕ) (n limit : ℕ) (name v c : List ℕ) (o : RustOption ℕ) : Type 0 where
   pub size : length c ≡ length b
   pub binds : (s : IsSheet (take n b)) → BindsTo b n limit (underscored name) (let_value v (resolve s.r v)) c o
 
@@ -82,32 +79,32 @@ line-is {t} {a = a} x y z w m k = record {
 }
 
 -- BINDING.
-module _ (b : List ℕ) (n : ℕ) (v : List ℕ) (f : Found) (told : (r : Records) → take n b ≡ encode r → good_records r word 6 ≡ true → Gives (take n b) (resolve r (underscored_if false v)) f) where
+module _ (b : List ℕ) (n : ℕ) (v : List ℕ) (f : RustOption Found) (told : (r : Records) → take n b ≡ encode r → good_records r word 6 ≡ true → Gives (take n b) (resolve r (underscored_if false v)) f) where
   gives_line : (s : IsSheet (take n b)) → Gives (take n b) (resolve s.r v) f
   unfolding underscored_if
   gives_line s = told s.r s.bytes s.good
 
-  pub line-there : IsSheet (take n b) → (f ≡ Missing → ⊥) → IsThere (take n b) f
-  line-there s h = let w = found-there (take n b) _ f (gives_line s) h in record { v = w.0; gives = w.2 }
+  pub line-there : IsSheet (take n b) → {x : Found} → f ≡ Some x → IsThere (take n b) x
+  line-there s e = let w = gives_one (take n b) _ (gives_line s) e in record { v = w.0; tells = w.2 }
 
-  module _ {limit : ℕ} {name c : List ℕ} {o : Bound} where
-    pub bind-missing : f ≡ Missing → BindsTo b n limit (underscored_if true name) (text v) c o → BindsLine b n limit name v c o
+  module _ {limit : ℕ} {name c : List ℕ} {o : RustOption ℕ} where
+    pub bind-missing : f ≡ None → BindsTo b n limit (underscored_if true name) (text v) c o → BindsLine b n limit name v c o
     unfolding underscored_if let_value Gives
     bind-missing e w = record {
       size = w.long;
       binds = λ s. let g : resolve s.r v ≡ none = rw e at (gives_line s) in rw g w;
     }
 
-    pub bind-there : IsSheet (take n b) → (f ≡ Missing → ⊥) → ((x : Value) → Gives (take n b) (some x) f → BindsTo b n limit (underscored_if true name) x c o) → BindsLine b n limit name v c o
+    pub bind-there : IsSheet (take n b) → {x : Found} → f ≡ Some x → ((y : Value) → Tells (take n b) y x → BindsTo b n limit (underscored_if true name) y c o) → BindsLine b n limit name v c o
     unfolding underscored_if let_value
     bind-there i h w = record {
-      size = (w _ (line-there i h).gives).long;
-      binds = λ s. let g = found-there (take n b) (resolve s.r v) f (gives_line s) h in rw g.1 (w g.0 g.2);
+      size = (w _ (line-there i h).tells).long;
+      binds = λ s. let g = gives_one (take n b) (resolve s.r v) (gives_line s) h in rw g.1 (w g.0 g.2);
     }
 
 -- THE STEP.
-module _ {t : List ℕ} {at : ℕ} {l : Line} (i : IsLine t at l) {b : List ℕ} {n limit : ℕ} {c : List ℕ} {o : Bound} (w : BindsLine b n limit (part t l.from l.to) (part t l.start l.end) c o) where
-  pub let-over : {k : ℕ} → o ≡ Over → Lets limit t at b n c (record { ok = false; at = l.next; len = k })
+module _ {t : List ℕ} {at : ℕ} {l : Line} (i : IsLine t at l) {b : List ℕ} {n limit : ℕ} {c : List ℕ} {o : RustOption ℕ} (w : BindsLine b n limit (part t l.from l.to) (part t l.start l.end) c o) where
+  pub let-over : {k : ℕ} → o ≡ None → Lets limit t at b n c (record { ok = false; at = l.next; len = k })
   let-over e = record {
     size = w.size;
     on = i.on;
@@ -115,7 +112,7 @@ module _ {t : List ℕ} {at : ℕ} {l : Line} (i : IsLine t at l) {b : List ℕ}
     leaves = λ s. record { to = _; does = i.does (resolve s.r) s.r; goes = λ z. absurd (true≢false (sym z)); stops = λ z. over-long s.r s.bytes (rw e at (w.binds s)) };
   }
 
-  pub let-bound : {k : ℕ} → all ascii t ≡ true → o ≡ Length k → Lets limit t at b n c (record { ok = true; at = l.next; len = k })
+  pub let-bound : {k : ℕ} → all ascii t ≡ true → o ≡ Some k → Lets limit t at b n c (record { ok = true; at = l.next; len = k })
   let-bound a e = record {
     size = w.size;
     on = i.on;

@@ -8,10 +8,8 @@ ghost use Rattle.sheet.specs.Find.{IsSheet};
 ghost use Rattle.binding.specs.Write.{Bindable};
 ghost use Rattle.let_steps.specs.Let.{Imports, IsLine, BindsLine, Lets};
 
-use binding::Bound;
 use paths::trim;
 use scan::Set;
-use sheet::lookup::Found;
 
 // `#import`: drops the line. Where reading goes on.
 pub fn import_step(text: &[u8], at: usize) -> usize
@@ -53,14 +51,13 @@ fn let_line(text: &[u8], at: usize) -> Line
 }
 
 // Binds a name, each `-` made `_`: to the value that the text, unchanged, is looked up as, or to the text itself.
-fn bind_line(left: &mut [u8], n: usize, limit: usize, name: &[u8], content: &[u8]) -> Bound
+fn bind_line(left: &mut [u8], n: usize, limit: usize, name: &[u8], content: &[u8]) -> Option<usize>
     requires { Bindable left.old n limit × IsSheet (take n left.old) }
     ensures { BindsLine left.old n limit name.now content.now left.new result }
 {
-    let found = sheet::lookup::lookup(&left[..n], content, false);
-    match found {
-        Found::Missing => binding::bind_text(left, n, limit, name, true, content),
-        _ => binding::bind_found(left, n, limit, name, true, found),
+    match sheet::lookup::lookup(&left[..n], content, false) {
+        None => binding::bind_text(left, n, limit, name, true, content),
+        Some(found) => binding::bind_found(left, n, limit, name, true, found),
     }
 }
 
@@ -85,12 +82,12 @@ pub fn let_step(text: &[u8], at: usize, left: &mut [u8], n: usize, limit: usize)
     let next = line.next;
     let bound = bind_line(left, n, limit, &text[from..to], &text[start..end]);
     match bound {
-        Bound::Over => Let {
+        None => Let {
             ok: false,
             at: next,
             len: n,
         },
-        Bound::Length(len) => Let {
+        Some(len) => Let {
             ok: true,
             at: next,
             len: len,

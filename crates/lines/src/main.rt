@@ -2,278 +2,207 @@
 // made). It prints each case that differs, and how many there were.
 #![tactic(auto)]
 
-ghost use Rattle.std.specs.Prelude.{◌≡◌, ◌+◌, ◌<◌, ◌≤◌, length, take};
+ghost use Rattle.std.specs.Prelude.{◌≤◌, length};
+ghost use Rattle.std.specs.Iterator.{at_most};
 
-use cases::{Tally, behind, differs, field, holds, short_at};
-use std::io::{Result, Write};
+use cases::{Fields, holds};
+use std::io::Result;
 
-// A buffer for a call: filled, so that a byte that the call leaves as it was is seen.
-fn buffer() -> [u8; 4096]
-    ensures { 4096 ≡ length result }
-{
-    [170; 4096]
-}
+// A buffer before a call: filled, so that a byte that the call leaves as it was is seen.
+const FILLED: [u8; 4096] = [170; 4096];
 
-// The length that a text's answer asks of its buffer; 0 where the answer is cut short or asks for more than there is.
-fn room(answer: &[u8], out: &[u8]) -> usize
-    ensures { (result ≤ length out.now) × (result ≡ length (take result out.now)) }
-{
-    if answer.len() < 3 {
-        return 0;
-    }
-    let size = short_at(answer, 1);
-    if out.len() < size {
-        return 0;
-    }
-    size
-}
-
-// Is a text's answer the one given: number, the buffer's length in 16 bits, the text?
-fn text_same(answer: &[u8], got: builder::Text, out: &[u8; 4096]) -> bool {
-    if answer.len() < 3 {
-        return false;
-    }
-    let all = &out[..];
-    let n = room(answer, all);
-    if (got.number != answer[0]) | (n != short_at(answer, 1)) | (got.len != answer.len() - 3) {
-        return false;
-    }
-    holds(&all[..n], &answer[3..])
-}
-
-// Is the kind answered as the field says: one byte?
-fn kind_same(answer: &[u8], kind: u8) -> bool {
-    if answer.len() != 1 {
-        return false;
-    }
-    answer[0] == kind
-}
-
-// The lookup call: sheet, path, the answer of a text, and the kind.
-fn lookup_same(case: &[u8]) -> bool {
-    let answer = field(case, 2);
-    let mut out = buffer();
-    let n = room(answer, &out);
-    let got = builder::resolve(field(case, 0), field(case, 1), &mut out[..n]);
-    let written = builder::Text {
-        number: got.number,
-        len: got.len,
-    };
-    text_same(answer, written, &out) & kind_same(field(case, 3), got.kind)
-}
-
-// The include call: bundle, folder, text, and the answer of a text.
-fn includes_same(case: &[u8]) -> bool {
-    let answer = field(case, 3);
-    let mut out = buffer();
-    let n = room(answer, &out);
-    let got = builder::resolve_includes(
-        field(case, 0),
-        field(case, 1),
-        field(case, 2),
-        &mut out[..n],
-    );
-    text_same(answer, got, &out)
-}
-
-// The expansion call: bundle, text, sheet, and the answers of the text and of the sheet left, with the call's number in both.
-fn expansion_same(case: &[u8]) -> bool {
-    let text = field(case, 3);
-    let sheet = field(case, 4);
-    let mut out = buffer();
-    let mut left = buffer();
-    let n = room(text, &out);
-    let m = room(sheet, &left);
-    let got = builder::preprocess_typst(
-        field(case, 0),
-        field(case, 1),
-        field(case, 2),
-        &mut out[..n],
-        &mut left[..m],
-    );
-    let written = builder::Text {
-        number: got.number,
-        len: got.len,
-    };
-    let kept = builder::Text {
-        number: got.number,
-        len: got.sheet,
-    };
-    text_same(text, written, &out) & text_same(sheet, kept, &left)
-}
-
-// The definitions call: bundle, path, and the answers of the sheet and of the work buffer, with the call's number in both.
-fn definitions_same(case: &[u8]) -> bool {
-    let sheet = field(case, 2);
-    let rest = field(case, 3);
-    let mut left = buffer();
-    let mut work = buffer();
-    let n = room(sheet, &left);
-    let m = room(rest, &work);
-    let got = builder::parse_definitions(
-        field(case, 0),
-        field(case, 1),
-        &mut left[..n],
-        &mut work[..m],
-    );
-    let made = builder::Text {
-        number: got.number,
-        len: got.sheet,
-    };
-    let cleared = builder::Text {
-        number: got.number,
-        len: 0,
-    };
-    text_same(sheet, made, &left) & text_same(rest, cleared, &work)
-}
-
-// Is closed answered as the field says: one byte, 1 for yes?
-fn closed_same(answer: &[u8], closed: bool) -> bool {
-    if answer.len() != 1 {
-        return false;
-    }
-    (answer[0] == 1) == closed
-}
-
-// The pass: bundle, folder, text, sheet, the answers of middle, out and left, with the call's number in each, and closed.
-fn pass_same(case: &[u8]) -> bool {
-    let inner = field(case, 4);
-    let text = field(case, 5);
-    let sheet = field(case, 6);
-    let mut middle = buffer();
-    let mut out = buffer();
-    let mut left = buffer();
-    let k = room(inner, &middle);
-    let n = room(text, &out);
-    let m = room(sheet, &left);
-    let got = builder::pass(
-        field(case, 0),
-        field(case, 1),
-        field(case, 2),
-        field(case, 3),
-        &mut middle[..k],
-        &mut out[..n],
-        &mut left[..m],
-    );
-    let number = got.number;
-    text_same(
-        inner,
-        builder::Text {
-            number: number,
-            len: 0,
-        },
-        &middle,
-    ) & text_same(
-        text,
-        builder::Text {
-            number: number,
-            len: got.len,
-        },
-        &out,
-    ) & text_same(
-        sheet,
-        builder::Text {
-            number: number,
-            len: got.sheet,
-        },
-        &left,
-    ) & closed_same(field(case, 7), got.closed)
-}
-
-// The seed of a field: four bytes, low byte first; 0 where there are fewer.
-fn seed(bytes: &[u8]) -> u32 {
-    if bytes.len() < 4 {
-        return 0;
-    }
-    (short_at(bytes, 0) + 65536 * short_at(bytes, 2)) as u32
-}
-
-// The list of a field: is it one byte, 1 for the definition pieces?
-fn definitions(list: &[u8]) -> bool {
-    if list.len() != 1 {
-        return false;
-    }
-    list[0] == 1
-}
-
-// The test load: seed, list, and the answer of a text.
-fn load_same(case: &[u8]) -> bool {
-    let answer = field(case, 2);
-    let mut out = buffer();
-    let n = room(answer, &out);
-    let got = builder::test_load(
-        seed(field(case, 0)),
-        definitions(field(case, 1)),
-        &mut out[..n],
-    );
-    text_same(answer, got, &out)
-}
-
-// What a case came to: whether the answer is the one given, and how long the case is behind its tag.
+// The answer that a text must have: a number, the buffer's length in 16 bits, the text.
 #[derive(Clone, Copy)]
-struct Done {
-    pub same: bool,
-    pub len: usize,
+struct Answer<'a> {
+    number: u8,
+    room: usize,
+    text: &'a [u8],
+    ghost fits: { room ≤ 4096 },
 }
 
-// What a case of n fields came to.
-fn came_to(same: bool, case: &[u8], n: usize) -> Done
-    ensures { result.len ≤ length case.now }
-{
-    Done {
-        same: same,
-        len: behind(case, n),
-    }
-}
-
-// A case by its tag: one arm a call. A tag that is not known differs, and what stands behind it is not read.
-fn replay_case(tag: u8, case: &[u8]) -> Done
-    ensures { result.len ≤ length case.now }
-{
-    match tag {
-        0 => came_to(lookup_same(case), case, 4),
-        1 => came_to(includes_same(case), case, 4),
-        2 => came_to(expansion_same(case), case, 5),
-        3 => came_to(definitions_same(case), case, 4),
-        4 => came_to(pass_same(case), case, 8),
-        5 => came_to(load_same(case), case, 3),
-        _ => Done {
-            same: false,
-            len: case.len(),
-        },
-    }
-}
-
-// Every case of the input; each that differs is written.
-fn replay<W: Write>(input: &[u8], out: &mut W) -> Result<Tally> {
-    let mut at: usize = 0;
-    let mut cases: u64 = 0;
-    let mut differing: u64 = 0;
-    while at < input.len() {
-        let tag = input[at];
-        at += 1;
-        let done = replay_case(tag, &input[at..]);
-        if !done.same {
-            differs(cases, out)?;
-            differing = differing.wrapping_add(1);
+impl<'a> Answer<'a> {
+    // The answer of a field. None where it is cut short or asks for more room than there is.
+    fn of(field: &'a [u8]) -> Option<Answer<'a>> {
+        let [number, low, high, text @ ..] = field else {
+            return None;
+        };
+        let room = usize::from(u16::from_le_bytes([*low, *high]));
+        if room > 4096 {
+            return None;
         }
-        cases = cases.wrapping_add(1);
-        at += done.len;
+        Some(Answer {
+            number: *number,
+            room,
+            text,
+        })
     }
-    Ok(Tally { cases, differing })
+
+    // Is a call's answer this one?
+    fn is(&self, number: u8, len: usize, out: &[u8; 4096]) -> bool {
+        number == self.number && len == self.text.len() && holds(&out[..self.room], self.text)
+    }
 }
 
-// A buffer for the whole input.
-fn input_buffer() -> [u8; 196608]
-    ensures { 196608 ≡ length result }
+// A yes or a no: one byte, 1 for yes.
+fn flag(field: &[u8]) -> Option<bool> {
+    match field {
+        [byte] => Some(*byte == 1),
+        _ => None,
+    }
+}
+
+// The lookup call. The kind is one byte.
+fn lookup_same(sheet: &[u8], path: &[u8], answer: &[u8], kind: &[u8]) -> Option<bool> {
+    let answer = Answer::of(answer)?;
+    let mut out = FILLED;
+    let got = builder::resolve(sheet, path, &mut out[..answer.room]);
+    Some(answer.is(got.number, got.len, &out) && kind == [got.kind].as_slice())
+}
+
+// The include call.
+fn includes_same(bundle: &[u8], folder: &[u8], text: &[u8], answer: &[u8]) -> Option<bool> {
+    let answer = Answer::of(answer)?;
+    let mut out = FILLED;
+    let got = builder::resolve_includes(bundle, folder, text, &mut out[..answer.room]);
+    Some(answer.is(got.number, got.len, &out))
+}
+
+// The expansion call, with its number in both answers: of the text, and of the sheet left.
+fn expansion_same(
+    bundle: &[u8],
+    text: &[u8],
+    sheet: &[u8],
+    written: &[u8],
+    kept: &[u8],
+) -> Option<bool> {
+    let written = Answer::of(written)?;
+    let kept = Answer::of(kept)?;
+    let mut out = FILLED;
+    let mut left = FILLED;
+    let got = builder::preprocess_typst(
+        bundle,
+        text,
+        sheet,
+        &mut out[..written.room],
+        &mut left[..kept.room],
+    );
+    Some(written.is(got.number, got.len, &out) && kept.is(got.number, got.sheet, &left))
+}
+
+// The definitions call, with its number in both answers: of the sheet, and of the work buffer, which is cleared.
+fn definitions_same(bundle: &[u8], path: &[u8], sheet: &[u8], cleared: &[u8]) -> Option<bool> {
+    let sheet = Answer::of(sheet)?;
+    let cleared = Answer::of(cleared)?;
+    let mut left = FILLED;
+    let mut work = FILLED;
+    let got = builder::parse_definitions(
+        bundle,
+        path,
+        &mut left[..sheet.room],
+        &mut work[..cleared.room],
+    );
+    Some(sheet.is(got.number, got.sheet, &left) && cleared.is(got.number, 0, &work))
+}
+
+// The pass, with its number in each answer: of the middle text, which is cleared, of the text, and of the sheet left.
+fn pass_same(
+    bundle: &[u8],
+    folder: &[u8],
+    text: &[u8],
+    sheet: &[u8],
+    cleared: &[u8],
+    written: &[u8],
+    kept: &[u8],
+    closed: &[u8],
+) -> Option<bool> {
+    let cleared = Answer::of(cleared)?;
+    let written = Answer::of(written)?;
+    let kept = Answer::of(kept)?;
+    let mut middle = FILLED;
+    let mut out = FILLED;
+    let mut left = FILLED;
+    let got = builder::pass(
+        bundle,
+        folder,
+        text,
+        sheet,
+        &mut middle[..cleared.room],
+        &mut out[..written.room],
+        &mut left[..kept.room],
+    );
+    Some(
+        cleared.is(got.number, 0, &middle)
+            && written.is(got.number, got.len, &out)
+            && kept.is(got.number, got.sheet, &left)
+            && flag(closed) == Some(got.closed),
+    )
+}
+
+// The test load. The seed is four bytes, low byte first, and 0 where there are fewer; the list is a yes for the definition pieces.
+fn load_same(seed: &[u8], list: &[u8], answer: &[u8]) -> Option<bool> {
+    let answer = Answer::of(answer)?;
+    let seed = seed
+        .first_chunk()
+        .map_or(0, |bytes| u32::from_le_bytes(*bytes));
+    let mut out = FILLED;
+    let got = builder::test_load(seed, flag(list) == Some(true), &mut out[..answer.room]);
+    Some(answer.is(got.number, got.len, &out))
+}
+
+// Is the answer of a call the one given? The tag says which call. One that is not known differs, and what stands behind it is not read.
+fn same(tag: u8, case: &mut Fields) -> bool
+    ensures { length case.new.0.now ≤ length case.old.0.now }
 {
-    [0; 196608]
+    let same = match tag {
+        0 => lookup_same(case.field(), case.field(), case.field(), case.field()),
+        1 => includes_same(case.field(), case.field(), case.field(), case.field()),
+        2 => expansion_same(
+            case.field(),
+            case.field(),
+            case.field(),
+            case.field(),
+            case.field(),
+        ),
+        3 => definitions_same(case.field(), case.field(), case.field(), case.field()),
+        4 => pass_same(
+            case.field(),
+            case.field(),
+            case.field(),
+            case.field(),
+            case.field(),
+            case.field(),
+            case.field(),
+            case.field(),
+        ),
+        5 => load_same(case.field(), case.field(), case.field()),
+        _ => {
+            *case = Fields(&[]);
+            None
+        }
+    };
+    same.unwrap_or(false)
+}
+
+// The cases of the input, each a tag and its fields.
+#[derive(Drop)]
+struct Cases<'a>(Fields<'a>);
+
+impl<'a> Iterator for Cases<'a> {
+    type Item = bool;
+
+    ghost remaining = { λ s. at_most (length s.0.0.now) };
+
+    fn next(&mut self) -> Option<bool> {
+        let (tag, rest) = self.0.0.split_first()?;
+        self.0 = Fields(rest);
+        Some(same(*tag, &mut self.0))
+    }
 }
 
 fn main(rt: HostRuntime) -> Result<()> {
-    let mut input = input_buffer();
+    let mut input = [0; 196608];
     let n = input::read_full(&mut rt.stdin(), &mut input)?;
     let mut out = rt.stdout();
-    let tally = replay(&input[..n], &mut out)?;
+    let tally = cases::replay(Cases(Fields(&input[..n])), &mut out)?;
     cases::report(tally, &mut out)
 }

@@ -22,42 +22,37 @@ use Rattle.calls.specs.declared.Outcome.TheVariants.{HandedBack, Output}
 use Rattle.calls.specs.Called.{Says, Calls}
 use Rattle.string_ends.specs.Ends.{Ends}
 use Rattle.link_call.specs.declared.Ending.{Ending}
+use Rattle.std.specs.Borrow.{Bor}
 
 -- From i on e reads the end of r, for every address.
 pub record Closes (e : List ℕ → Reader Call) (t : List ℕ) (i : ℕ) (r : Ending) : Type 0 where
   pub on : i ≤ r.at
   pub inside : r.at ≤ length t
-  pub order : r.from ≤ r.to
-  pub lies : r.to ≤ length t
-  pub says : (u : List ℕ) → e u (drop i t) ≡ (outputs r.whole (link_text u (part t r.from r.to)), drop r.at t)
+  pub says : (u : List ℕ) → e u (drop i t) ≡ (outputs r.whole (link_text u r.text.now), drop r.at t)
 
 -- Without a text it is the address.
-no_text : (u t : List ℕ) (i : ℕ) → link_text u (part t i i) ≡ u
+no_text : (u : List ℕ) → link_text u [] ≡ u
 unfolding link_text empty
-no_text u t i = let z : i - i ≡ 0 = omega arith in rw z refl
+no_text u = refl
 
 -- THE BOX, behind the `)` at i and line blanks up to k.
 module _ {t : List ℕ} {i k : ℕ} (h : i < length t) (L : Spans line_blank t (i + 1) k) {c : Bool} (s : Sees (byte_is 91) t k c) where
-  pub block_none : c ≡ false → Closes link_content_block t i (record { whole = true; at = k; from = k; to = k })
+  pub block_none : c ≡ false → {l : Bor (List ℕ)} → l.now ≡ [] → Closes link_content_block t i (record { whole = true; at = k; text = l })
   unfolding link_content_block ◌>>=◌ ◌>>◌ if_r ret
-  block_none e = record {
+  block_none e x = record {
     on = omega (arith, L.on);
     inside = L.inside;
-    order = omega arith;
-    lies = L.inside;
-    says = λ u. rw (skip_at t i h, L.rest, (sees-the "[" s e).says, no_text u t k) refl;
+    says = λ u. rw (skip_at t i h, L.rest, (sees-the "[" s e).says, x, no_text u) refl;
   }
 
-  pub block_text_lem : c ≡ true → {j n : ℕ} {w : Bool} → Spans (not_byte 93) t (k + 1) j → Sees (byte_is 93) t j w → Skips t j n → Closes link_content_block t i (record { whole = w; at = n; from = k + 1; to = j })
+  pub block_text_lem : c ≡ true → {j n : ℕ} {w : Bool} → Spans (not_byte 93) t (k + 1) j → Sees (byte_is 93) t j w → Skips t j n → {l : Bor (List ℕ)} → l.now ≡ part t (k + 1) j → Closes link_content_block t i (record { whole = w; at = n; text = l })
   unfolding link_content_block ◌>>=◌ ◌>>◌ if_r ret
-  block_text_lem e J W N =
+  block_text_lem e J W N x =
       let M = spans-but "]" J in
       record {
         on = omega (arith, L.on, M.on, N.on);
         inside = N.inside;
-        order = M.on;
-        lies = M.inside;
-        says = λ u. rw (skip_at t i h, L.rest, (sees-the "[" s e).says, skip_at t k (s.there e), M.took, M.rest, (sees-the "]" W refl).says, N.rest) refl;
+        says = λ u. rw (skip_at t i h, L.rest, (sees-the "[" s e).says, skip_at t k (s.there e), M.took, M.rest, x, (sees-the "]" W refl).says, N.rest) refl;
       }
 
 -- THE END, behind blanks up to k.
@@ -67,21 +62,17 @@ module _ {t : List ℕ} {i k : ℕ} (L : Spans blank t i k) {c : Bool} (s : Sees
   end_block e b = record {
     on = omega (arith, L.on, b.on);
     inside = b.inside;
-    order = b.order;
-    lies = b.lies;
     says = λ u. rw (L.rest, (sees-the ")" s e).says) (b.says u);
   }
 
-  pub end_paren : c ≡ false → {j n : ℕ} {w : Bool} → Spans (not_byte 41) t k j → Sees (byte_is 41) t j w → Skips t j n → Closes link_end t i (record { whole = w; at = n; from = j; to = j })
+  pub end_paren : c ≡ false → {j n : ℕ} {w : Bool} → Spans (not_byte 41) t k j → Sees (byte_is 41) t j w → Skips t j n → {l : Bor (List ℕ)} → l.now ≡ [] → Closes link_end t i (record { whole = w; at = n; text = l })
   unfolding link_end ◌>>=◌ ◌>>◌ if_r ret
-  end_paren e {j = j} J W N =
+  end_paren e J W N x =
       let M = spans-but ")" J in
       record {
         on = omega (arith, L.on, M.on, N.on);
         inside = N.inside;
-        order = omega arith;
-        lies = M.inside;
-        says = λ u. rw (L.rest, (sees-the ")" s e).says, M.rest, (sees-the ")" W refl).says, N.rest, no_text u t j) refl;
+        says = λ u. rw (L.rest, (sees-the ")" s e).says, M.rest, (sees-the ")" W refl).says, N.rest, x, no_text u) refl;
       }
 
 -- IS IT THE ADDRESS ALONE? w: the content block's text, u: the address.
@@ -128,17 +119,17 @@ module _ (look : Lookup) {t : List ℕ} {at i : ℕ} (L : Spans blank t at i) {c
   link-back e = record { on = L.on; inside = L.inside; size = refl; says = (rw (L.rest, (sees-the "<" s e).says) refl, refl) }
 
   pub link-put : c ≡ false → {k : ℕ} → Ends (expression look (take (length t - i) (drop i t))) (take (length t - i) (drop i t)) k →
-      {e : Ending} → Closes link_end t (i + k) e → {d : List ℕ} {r : ℕ} → Put room b p (link_text (expression look (take (length t - i) (drop i t))).0 (part t e.from e.to)) d r → Calls room (link look (drop at t)) t at b p d (record { outcome = Output e.whole r; at = e.at })
+      {e : Ending} → Closes link_end t (i + k) e → {d : List ℕ} {r : ℕ} → Put room b p (link_text (expression look (take (length t - i) (drop i t))).0 e.text.now) d r → Calls room (link look (drop at t)) t at b p d (record { outcome = Output e.whole r; at = e.at })
   unfolding Says
   link-put f {k} w {e} E {d} {r} K =
       let u = (expression look (drop i t)).0 in
       let v : Ends (expression look (drop i t)) (drop i t) k = rw tail-part at w in
-      let F : Put room b p (link_text u (part t e.from e.to)) d r = rw tail-part at K in
+      let F : Put room b p (link_text u e.text.now) d r = rw tail-part at K in
       record {
         on = omega (arith, L.on, E.on);
         inside = E.inside;
         size = put-length F;
-        says = (link_text u (part t e.from e.to), reads v ∙ E.says u, put-fills F);
+        says = (link_text u e.text.now, reads v ∙ E.says u, put-fills F);
       }
     where
       reads : Ends (expression look (drop i t)) (drop i t) k → link look (drop at t) ≡ link_end (expression look (drop i t)).0 (drop (i + k) t)

@@ -15,18 +15,16 @@ ghost use Rattle.link_call.specs.Link.{Closes};
 use calls::{Called, Outcome};
 use scan::Set;
 
-// How a call ends: on its own `)` or `]`; where reading goes on; where the text of its content block begins and ends. Without one the text
-// is empty.
+// How a call ends: on its own `)` or `]`; where reading goes on; the text of its content block, empty without one.
 #[derive(Clone, Copy)]
-pub struct Ending {
+pub struct Ending<'a> {
     pub whole: bool,
     pub at: usize,
-    pub from: usize,
-    pub to: usize,
+    pub text: &'a [u8],
 }
 
 // The content block behind a `)`.
-fn content_block_end(text: &[u8], at: usize) -> Ending
+fn content_block_end<'a>(text: &'a [u8], at: usize) -> Ending<'a>
     requires { at < length text.now }
     ensures { Closes link_content_block text.now at result }
 {
@@ -35,23 +33,19 @@ fn content_block_end(text: &[u8], at: usize) -> Ending
         return Ending {
             whole: true,
             at: i,
-            from: i,
-            to: i,
+            text: &text[..0],
         };
     }
     let j = scan::find(text, i + 1, b']');
-    let whole = scan::at(text, j, b']');
-    let next = scan::skip(text, j);
     Ending {
-        whole,
-        at: next,
-        from: i + 1,
-        to: j,
+        whole: scan::at(text, j, b']'),
+        at: scan::skip(text, j),
+        text: &text[i + 1..j],
     }
 }
 
 // The end of a call, from behind its address.
-fn call_end(text: &[u8], at: usize) -> Ending
+fn call_end<'a>(text: &'a [u8], at: usize) -> Ending<'a>
     requires { at ≤ length text.now }
     ensures { Closes link_end text.now at result }
 {
@@ -60,13 +54,10 @@ fn call_end(text: &[u8], at: usize) -> Ending
         return content_block_end(text, i);
     }
     let j = scan::find(text, i, b')');
-    let whole = scan::at(text, j, b')');
-    let next = scan::skip(text, j);
     Ending {
-        whole,
-        at: next,
-        from: j,
-        to: j,
+        whole: scan::at(text, j, b')'),
+        at: scan::skip(text, j),
+        text: &text[..0],
     }
 }
 
@@ -116,16 +107,14 @@ pub fn link(text: &[u8], at: usize, sheet: &[u8], out: &mut [u8], room: usize, p
             at: i,
         };
     }
-    let n = string_ends::expression_end(&text[i..]);
-    let e = call_end(text, i + n);
-    let from = e.from;
-    let to = e.to;
-    let next = put_link(&text[i..], sheet, &text[from..to], out, room, p);
+    let address = &text[i..];
+    let end = call_end(text, i + string_ends::expression_end(address));
+    let next = put_link(address, sheet, end.text, out, room, p);
     Called {
         outcome: Outcome::Output {
-            whole: e.whole,
+            whole: end.whole,
             next,
         },
-        at: e.at,
+        at: end.at,
     }
 }

@@ -1,6 +1,6 @@
 -- Finding a file: the answer of what was found, and the ways through the call.
-use Rattle.std.specs.Prelude.{◌≡◌, refl, List, Bool, true, false, ℕ}
-use Rattle.std.proofs.Common.{sym, ap, ◌∙◌}
+use Rattle.std.specs.Prelude.{◌≡◌, refl, List, Bool, true, false, ℕ, ◌+◌, ◌-◌, length}
+use Rattle.std.proofs.Common.{arith, sym, ap, ◌∙◌}
 use Rattle.std.proofs.Math.Option.{Option, none, some}
 use Rattle.rules.specs.Answer.{◌>>=◌, ◌>>◌, check, or_refuse, is_some}
 use Rattle.rules.specs.Bytes.{is_path}
@@ -9,18 +9,23 @@ use Rattle.rules.specs.Files.{entry_at, is_folder_of}
 use Rattle.rules.specs.Calls.{Found, found_entry, found_answer, find_file_result, find_file_of}
 use Rattle.rules.proofs.Laws.Bool.{true-some, false-some}
 use Rattle.bundle.specs.Find.{entries_of, entries-some, located, Finds}
+use Rattle.lookups.specs.declared.FoundFile.{FoundFile}
 use Rattle.bundle.specs.declared.Found.{Found as Seen}
 use Rattle.bundle.specs.declared.Found.TheVariants.{Absent, Folder, File}
+
+-- An answer without a file.
+abbrev pub no_file : ℕ → ℕ → FoundFile
+no_file n k = record { number = n; kind = k; start = 0; len = 0 }
 
 -- The answer of each case.
 unfoldable pub file_answer : Seen → Found
 file_answer Absent = record { number = 0; kind = 0; start = 0; len = 0 }
 file_answer Folder = record { number = 0; kind = 1; start = 0; len = 0 }
-file_answer (File s n) = record { number = 0; kind = 2; start = s; len = n }
+file_answer (File r) = record { number = 0; kind = 2; start = r.from; len = r.to - r.from }
 
 located-answer : (e : Option Entry) (f : Bool) → found_entry e f ≡ file_answer (located e f)
 unfolding found_entry file_answer located
-located-answer (some e) f = refl
+located-answer (some e) f = let z : e.start + length e.content - e.start ≡ length e.content = omega arith in rw z refl
 located-answer none true = refl
 located-answer none false = refl
 

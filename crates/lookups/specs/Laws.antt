@@ -11,6 +11,7 @@ use Rattle.rules.specs.Bytes.{ascii, word}
 use Rattle.rules.specs.Sheet.{Records, encode, good_records, sheet_of, resolve, text_of}
 use Rattle.rules.specs.Calls.{zeros, padded, looked_answer, resolve_result, resolve_of}
 use Rattle.rules.proofs.Laws.Bool.{false-some}
+use Rattle.std.specs.Prelude.{Option as RustOption}
 use Rattle.sheet.specs.declared.lookup.Found.{Found}
 use Rattle.sheet.specs.Use.{known}
 use Rattle.sheet.specs.Order.{underscored_if}
@@ -36,7 +37,7 @@ unfolding resolve_of resolve_result looked_answer or_refuse check ◌>>=◌ ◌>
 resolve-six s p b bytes h a = refuses s p b 6 (rw ((known s bytes h).of, a))
 
 -- LOOKED UP.
-module _ (s p : List ℕ) (bytes : (i : ℕ) → get_or s i 0 < 256) (h : is_some (sheet_of s) ≡ true) (f : Found)
+module _ (s p : List ℕ) (bytes : (i : ℕ) → get_or s i 0 < 256) (h : is_some (sheet_of s) ≡ true) (f : RustOption Found)
     (told : (r : Records) → s ≡ encode r → good_records r word 6 ≡ true → Gives s (resolve r (underscored_if false p)) f) where
   pub resolve-gives : Gives s (resolve (known s bytes h).r p) f
   unfolding underscored_if

@@ -5,7 +5,7 @@
 ghost use Rattle.std.specs.Prelude.{◌≡◌};
 ghost use Rattle.rules.specs.Calls.{find_file_of};
 ghost use Rattle.sheet.specs.Find.{found_kind};
-ghost use Rattle.lookups.specs.Files.{file_answer};
+ghost use Rattle.lookups.specs.Files.{no_file};
 ghost use Rattle.lookups.specs.Text.{Gave, Resolves};
 
 use sheet::lookup::{Found, text_place};
@@ -19,18 +19,14 @@ pub struct Resolved {
 }
 
 // The number of a kind.
-fn kind(found: Found) -> u8
+fn kind(found: Option<Found>) -> u8
     ensures { result ≡ found_kind found }
 {
     match found {
-        Found::Missing => 0,
-        Found::None => 1,
-        Found::Text { from: _, to: _ } => 2,
-        Found::Dictionary {
-            from: _,
-            to: _,
-            count: _,
-        } => 3,
+        None => 0,
+        Some(Found::Nothing) => 1,
+        Some(Found::Text(_)) => 2,
+        Some(Found::Dictionary { .. }) => 3,
     }
 }
 
@@ -74,9 +70,7 @@ pub fn resolve(sheet: &[u8], path: &[u8], out: &mut [u8]) -> Resolved
     }
     let found = sheet::lookup::lookup(sheet, path, false);
     let place = text_place(found);
-    let from = place.from;
-    let to = place.to;
-    give(kind(found), &sheet[from..to], out)
+    give(kind(found), &sheet[place.from..place.to], out)
 }
 
 // What a path is in a bundle. Kind: 0 absent, 1 folder, 2 file; a file's content stands at `start` in the bundle.
@@ -88,29 +82,15 @@ pub struct FoundFile {
     pub len: usize,
 }
 
-// The answer of what was found.
-fn found_file(found: bundle::Found) -> FoundFile
-    ensures { file_answer found ≡ record { number = result.number; kind = result.kind; start = result.start; len = result.len } }
+// An answer without a file: a refusal, or what else the path is.
+fn no_file(number: u8, kind: u8) -> FoundFile
+    ensures { result ≡ no_file number kind }
 {
-    match found {
-        bundle::Found::Absent => FoundFile {
-            number: 0,
-            kind: 0,
-            start: 0,
-            len: 0,
-        },
-        bundle::Found::Folder => FoundFile {
-            number: 0,
-            kind: 1,
-            start: 0,
-            len: 0,
-        },
-        bundle::Found::File { start, len } => FoundFile {
-            number: 0,
-            kind: 2,
-            start: start,
-            len: len,
-        },
+    FoundFile {
+        number,
+        kind,
+        start: 0,
+        len: 0,
     }
 }
 
@@ -119,20 +99,19 @@ pub fn find_file(bundle: &[u8], path: &[u8]) -> FoundFile
     ensures { find_file_of bundle.now path.now ≡ record { number = result.number; kind = result.kind; start = result.start; len = result.len } }
 {
     if !bundle_layout::check(bundle) {
-        return FoundFile {
-            number: 2,
-            kind: 0,
-            start: 0,
-            len: 0,
-        };
+        return no_file(2, 0);
     }
     if !paths::is_path(path) {
-        return FoundFile {
-            number: 4,
-            kind: 0,
-            start: 0,
-            len: 0,
-        };
+        return no_file(4, 0);
     }
-    found_file(bundle::find(bundle, path))
+    match bundle::find(bundle, path) {
+        bundle::Found::Absent => no_file(0, 0),
+        bundle::Found::Folder => no_file(0, 1),
+        bundle::Found::File(content) => FoundFile {
+            number: 0,
+            kind: 2,
+            start: content.from,
+            len: content.to - content.from,
+        },
+    }
 }

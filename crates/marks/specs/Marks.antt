@@ -1,23 +1,24 @@
 -- Marks in a text: a stretch without marks is copied, and the stretch before a mark may comment it.
-use Rattle.std.specs.Prelude.{◌≡◌, List, [], ◌∷◌, ◌++◌, Bool, not, ℕ, suc, ◌+◌, ◌-◌, ◌≤◌, ◌<◌, eqb, length, take, drop, get_or}
+use Rattle.std.specs.Prelude.{◌≡◌, List, [], ◌∷◌, ◌++◌, Option, Some, None, Bool, not, ℕ, suc, ◌+◌, ◌-◌, ◌≤◌, ◌<◌, eqb, length, take, drop, get_or, reverse, take_while}
 use Rattle.std.proofs.Math.Path.{refl}
-use Rattle.std.proofs.Common.{sym, ap, ◌∙◌, append_assoc, append-nil, true≢false, arith, drop_of_length-le, drop-cons, drop-drop, take-add}
+use Rattle.std.proofs.Common.{sym, ap, ◌∙◌, true≢false, arith, drop_of_length-le, drop-cons, cond, length-append}
+use Rattle.std.proofs.Math.Seq.{drop-append_seam}
+use Rattle.std.proofs.lemmas.Grind.{reverse_onto}
+use Rattle.std.proofs.lemmas.List.Sums.{take_while-cons}
+use Rattle.std.proofs.lemmas.List.{reverse-reverse, reverse-append, length-reverse}
 use Rattle.std.proofs.Math.Bool.{true, false}
 use Rattle.std.proofs.Math.Decide.{dec_le}
-use borrow.Author.Tests.{eq-eqb, ne_eqb}
-use Rattle.rules.specs.Reader.{bytes, the, but, all, span, prefix, if_r, ◌>>=◌}
+use borrow.Author.Tests.{ne_eqb}
+use Rattle.rules.specs.Reader.{bytes, the, span, prefix, if_r, ◌>>=◌}
 use Rattle.rules.specs.Run.{Emit, put, run, emitted, all_whole, write}
 use Rattle.rules.specs.Bytes.{blank}
 use Rattle.rules.specs.Files.{View}
 use Rattle.rules.specs.Includes.{include_step, copy_byte, commented}
-use Rattle.rules.proofs.Laws.Bool.{and_l, and_r}
 use Rattle.scan.specs.Sets.{Spans, Starts, Stands, not_byte}
-use Rattle.scan.specs.Laws.{but-yes, mark_of, stands}
+use Rattle.scan.specs.Laws.{mark_of, stands, tail-part}
 use Rattle.scan.specs.Stretches.{spans-each}
 use Rattle.marks.specs.declared.Mark.{Mark}
 use Rattle.marks.specs.declared.Mark.TheVariants.{Include, SourceInclude}
-use Rattle.marks.specs.declared.Found.{Found}
-use Rattle.marks.specs.declared.Found.TheVariants.{Mark as Marked, Nothing}
 use Rattle.buffers.specs.Emits.{guarded-emitted}
 use Rattle.buffers.specs.Copies.{after_all, copied, copied-part}
 
@@ -26,23 +27,23 @@ abbrev pub mark_text : Mark → List ℕ
 mark_text Include = bytes "#include"
 mark_text SourceInclude = bytes "#source-include"
 
-unfoldable pub mark_at : List ℕ → Found
-mark_at t = elim (prefix (mark_text Include) t) [ true ↦ Marked Include | false ↦ elim (prefix (mark_text SourceInclude) t) [ true ↦ Marked SourceInclude | false ↦ Nothing ] ]
+unfoldable pub mark_at : List ℕ → Option Mark
+mark_at t = elim (prefix (mark_text Include) t) [ true ↦ Some Include | false ↦ elim (prefix (mark_text SourceInclude) t) [ true ↦ Some SourceInclude | false ↦ None ] ]
 
 abbrev pub IsMark : Mark → List ℕ → Type 0
-IsMark m t = Marked m ≡ mark_at t
+IsMark m t = Some m ≡ mark_at t
 
 -- From i to j no mark stands.
 pub record Unmarked (t : List ℕ) (i j : ℕ) : Type 0 where
   pub on : i ≤ j
   pub inside : j ≤ length t
-  pub none : (k : ℕ) → i ≤ k → k < j → mark_at (drop k t) ≡ Nothing
+  pub none : (k : ℕ) → i ≤ k → k < j → mark_at (drop k t) ≡ None
 
 -- The next mark from i on stands at j; without one j is the end.
-pub record NextMark (t : List ℕ) (i j : ℕ) (f : Found) : Type 0 where
+pub record NextMark (t : List ℕ) (i j : ℕ) (m : Option Mark) : Type 0 where
   pub before : Unmarked t i j
-  pub there : f ≡ mark_at (drop j t)
-  pub last : f ≡ Nothing → j ≡ length t
+  pub there : m ≡ mark_at (drop j t)
+  pub last : m ≡ None → j ≡ length t
 
 -- The stretch behind h and a byte that is copied; and behind h and the bytes of a text.
 unfoldable pub stretch_on : List ℕ → ℕ → List ℕ
@@ -52,29 +53,29 @@ abbrev pub stretch : List ℕ → List ℕ → List ℕ
 stretch = after_all stretch_on
 
 -- COPYING.
-marked-no : {m : Mark} {f : Found} {P : Type 0} → Marked m ≡ f → f ≡ Nothing → P
-marked-no h k = let z : ◌≡◌ {A = ℕ} 0 1 = cc in absurd (omega arith)
+marked-no : {m : Mark} {f : Option Mark} {P : Type 0} → Some m ≡ f → f ≡ None → P
+marked-no h k = absurd cc
 
 other-mark : {m : Mark} {P : Type 0} → m ≡ Include → m ≡ SourceInclude → P
-other-mark h k = let z : ◌≡◌ {A = ℕ} 0 1 = cc in absurd (omega arith)
+other-mark h k = absurd cc
 
-same-mark : {m n : Mark} {f : Found} → Marked m ≡ f → f ≡ Marked n → m ≡ n
+same-mark : {m n : Mark} {f : Option Mark} → Some m ≡ f → f ≡ Some n → m ≡ n
 same-mark h k = cc
 
-no-mark : (t : List ℕ) (a b : Bool) → prefix (mark_text Include) t ≡ a → prefix (mark_text SourceInclude) t ≡ b → mark_at t ≡ Nothing → (a ≡ false) × (b ≡ false)
+no-mark : (t : List ℕ) (a b : Bool) → prefix (mark_text Include) t ≡ a → prefix (mark_text SourceInclude) t ≡ b → mark_at t ≡ None → (a ≡ false) × (b ≡ false)
 unfolding mark_at
 no-mark t true b p q h = marked-no {m = Include} (rw (p, mark_at) refl) h
 no-mark t false true p q h = marked-no {m = SourceInclude} (rw (p, q, mark_at) refl) h
 no-mark t false false p q h = (refl, refl)
 
 module _ (v : View) (inside : List ℕ → List ℕ → Emit) (g : List ℕ) where
-  copy_step_lem : (h t : List ℕ) → mark_at t ≡ Nothing → include_step v inside g h t ≡ copy_byte h t
+  copy_step_lem : (h t : List ℕ) → mark_at t ≡ None → include_step v inside g h t ≡ copy_byte h t
   unfolding include_step ◌>>=◌ if_r
   copy_step_lem h t m =
       let n = no-mark t (prefix (mark_text Include) t) (prefix (mark_text SourceInclude) t) refl refl m in
       rw (mark_of (mark_text Include) t false n.0, mark_of (mark_text SourceInclude) t false n.1) refl
 
-  copies_at : (t h : List ℕ) (k : ℕ) → k < length t → mark_at (drop k t) ≡ Nothing → include_step v inside g h (drop k t) ≡ (copied stretch_on h (get_or t k 0), drop (suc k) t)
+  copies_at : (t h : List ℕ) (k : ℕ) → k < length t → mark_at (drop k t) ≡ None → include_step v inside g h (drop k t) ≡ (copied stretch_on h (get_or t k 0), drop (suc k) t)
   unfolding copy_byte copied stretch_on
   copies_at t h k l m = copy_step_lem h (drop k t) m ∙ rw (drop-cons t k 0 l) refl
 
@@ -97,14 +98,14 @@ module _ (v : View) (inside : List ℕ → List ℕ → Emit) (g : List ℕ) whe
 no-hash : (x : ℕ) → not_byte 35 x ≡ true → eqb 35 x ≡ false
 no-hash x h = ne_eqb 35 x (λ e. absurd (true≢false (sym h ∙ ap (λ z. not (eqb z 35)) (sym e))))
 
-other_byte : (x : ℕ) (xs : List ℕ) → not_byte 35 x ≡ true → mark_at (x ∷ xs) ≡ Nothing
+other_byte : (x : ℕ) (xs : List ℕ) → not_byte 35 x ≡ true → mark_at (x ∷ xs) ≡ None
 unfolding mark_at
 other_byte x xs h = rw (first (bytes "include"), first (bytes "source-include"), mark_at) refl
   where
     first : (m : List ℕ) → prefix (35 ∷ m) (x ∷ xs) ≡ false
     first m = unfold prefix in (rw (no-hash x h) refl)
 
-at-end : mark_at [] ≡ Nothing
+at-end : mark_at [] ≡ None
 unfolding mark_at prefix
 at-end = refl
 
@@ -112,21 +113,21 @@ module _ {t : List ℕ} {from i j : ℕ} (u : Unmarked t from i) (s : Spans (not
   pub unmarked-on : Unmarked t from j
   unmarked-on = record { on = omega (arith, u.on, s.on); inside = s.inside; none = λ k a b. at k a b (dec_le i k) }
     where
-      at : (k : ℕ) → from ≤ k → k < j → Dec (i ≤ k) → mark_at (drop k t) ≡ Nothing
+      at : (k : ℕ) → from ≤ k → k < j → Dec (i ≤ k) → mark_at (drop k t) ≡ None
       at k a b (yes h) = rw (drop-cons t k 0 (omega (arith, s.inside))) (other_byte (get_or t k 0) (drop (suc k) t) (spans-each s k h b))
       at k a b (no h) = u.none k a (omega arith)
 
-  pub mark-last : length t ≤ j → NextMark t from j Nothing
+  pub mark-last : length t ≤ j → NextMark t from j None
   mark-last h = record { before = unmarked-on; there = sym (ap mark_at (drop_of_length-le t h) ∙ at-end); last = λ z. omega (arith, s.inside) }
 
-  module _ {f : Found} (m : f ≡ mark_at (drop j t)) (h : j < length t) where
-    pub mark-found : {x : Mark} → f ≡ Marked x → NextMark t from j f
+  module _ {f : Option Mark} (m : f ≡ mark_at (drop j t)) (h : j < length t) where
+    pub mark-found : {x : Mark} → f ≡ Some x → NextMark t from j f
     mark-found z = record { before = unmarked-on; there = m; last = λ y. marked-no (sym z) y }
 
-    pub mark-again : f ≡ Nothing → Unmarked t from (j + 1)
+    pub mark-again : f ≡ None → Unmarked t from (j + 1)
     mark-again z = record { on = omega (arith, unmarked-on.on); inside = omega arith; none = λ k a b. at k a b (dec_le j k) }
       where
-        at : (k : ℕ) → from ≤ k → k < j + 1 → Dec (j ≤ k) → mark_at (drop k t) ≡ Nothing
+        at : (k : ℕ) → from ≤ k → k < j + 1 → Dec (j ≤ k) → mark_at (drop k t) ≡ None
         at k a b (yes y) = let e : k ≡ j = omega arith in ap (λ x. mark_at (drop x t)) e ∙ sym m ∙ z
         at k a b (no y) = unmarked-on.none k a (omega arith)
 
@@ -144,7 +145,7 @@ module _ {t : List ℕ} {i : ℕ} {a : Bool} (s : Starts (mark_text Include) t i
     unfolding mark_at
     at_source h = rw (s.says ∙ k, r.says ∙ h, mark_at)
 
-    pub at_none : c ≡ false → Nothing ≡ mark_at (drop i t)
+    pub at_none : c ≡ false → None ≡ mark_at (drop i t)
     unfolding mark_at
     at_none h = rw (s.says ∙ k, r.says ∙ h, mark_at)
 
@@ -173,69 +174,41 @@ pub mark-some : (m : Mark) → 0 < length (mark_text m)
 mark-some Include = omega arith
 mark-some SourceInclude = omega arith
 
--- THE STRETCH before a mark, of a text that is copied from `from` on.
--- Where it begins.
-pub record Line (t : List ℕ) (from at s : ℕ) : Type 0 where
-  pub on : from ≤ s
-  pub inside : s ≤ at
-  pub says : stretch [] (take (at - from) (drop from t)) ≡ take (at - s) (drop s t)
+-- THE STRETCH before a mark is what stands behind the last newline: the bytes from the end on, up to a newline.
+stretch-last : (h a : List ℕ) (x : ℕ) → stretch h (a ++ (x ∷ [])) ≡ stretch_on (stretch h a) x
+unfolding after_all
+stretch-last h [] x = refl
+stretch-last h (y ∷ ys) x = stretch-last (stretch_on h y) ys x
 
-stretch-append : (h a b : List ℕ) → stretch h (a ++ b) ≡ stretch (stretch h a) b
-unfolding after_all stretch_on
-stretch-append h [] b = refl
-stretch-append h (x ∷ xs) b = stretch-append (stretch_on h x) xs b
-
-stretch-line : (h b : List ℕ) → all (but "\n") b ≡ true → stretch h b ≡ h ++ b
-unfolding after_all stretch_on all
-stretch-line h [] e = sym (append-nil h)
-stretch-line h (x ∷ xs) e =
-    rw (but-yes "\n" x (and_l (but "\n" x) (all (but "\n") xs) e), stretch_on) (stretch-line (h ++ (x ∷ [])) xs (and_r (but "\n" x) (all (but "\n") xs) e) ∙ append_assoc h (x ∷ []) xs)
-
-stretch-newline : (h b : List ℕ) (x : ℕ) → x ≡ 10 → stretch h (x ∷ b) ≡ stretch [] b
+stretch-reverse : (r : List ℕ) → stretch [] (reverse r) ≡ reverse (take_while (not_byte 10) r)
 unfolding after_all stretch_on the
-stretch-newline h b x e = rw (eq-eqb x 10 e, stretch_on) refl
+stretch-reverse [] = refl
+stretch-reverse (x ∷ xs) = rw (reverse_onto xs x [], stretch-last [] (reverse xs) x, stretch-reverse xs, take_while-cons (not_byte 10) x xs) (at (the "\n" x))
+  where
+    at : (c : Bool) → elim c [ true ↦ [] | false ↦ reverse (take_while (not_byte 10) xs) ++ (x ∷ []) ] ≡ reverse (cond (not c) (x ∷ take_while (not_byte 10) xs) [])
+    at true = refl
+    at false = sym (reverse_onto (take_while (not_byte 10) xs) x [])
 
--- No newline from i on.
-pub record Back (t : List ℕ) (from at i : ℕ) : Type 0 where
-  pub on : from ≤ i
-  pub inside : i ≤ at
-  pub none : all (but "\n") (take (at - i) (drop i t)) ≡ true
+-- The bytes of the last line are the end of the text.
+taken : (r : List ℕ) → (u : List ℕ) × (take_while (not_byte 10) r ++ u ≡ r)
+taken [] = ([], refl)
+taken (x ∷ xs) = at (not_byte 10 x) refl (taken xs)
+  where
+    at : (c : Bool) → not_byte 10 x ≡ c → ((u : List ℕ) × (take_while (not_byte 10) xs ++ u ≡ xs)) → (u : List ℕ) × (take_while (not_byte 10) (x ∷ xs) ++ u ≡ x ∷ xs)
+    at true q h = (h.0, rw (take_while-cons (not_byte 10) x xs, q) (ap (λ z. x ∷ z) h.1))
+    at false q h = (x ∷ xs, rw (take_while-cons (not_byte 10) x xs, q) refl)
 
-pub back_start : (t : List ℕ) (from at : ℕ) → from ≤ at → Back t from at at
-unfolding all
-back_start t from at h = let z : at - at ≡ 0 = omega arith in record { on = h; inside = omega arith; none = rw z refl }
+pub last-line : (t : List ℕ) {n : ℕ} → n ≡ length (take_while (not_byte 10) (reverse t)) → take (length t - (length t - n)) (drop (length t - n) t) ≡ stretch [] t
+last-line t {n} e =
+    let w = take_while (not_byte 10) (reverse t) in
+    let u = taken (reverse t) in
+    let s : reverse u.0 ++ reverse w ≡ t = sym (reverse-append w u.0) ∙ ap reverse u.1 ∙ reverse-reverse t in
+    let l : length t - n ≡ length (reverse u.0) = omega (arith, ap length s, length-append (reverse u.0) (reverse w), length-reverse w) in
+    let d : drop (length t - n) t ≡ reverse w = ap (λ z. drop z t) l ∙ ap (drop (length (reverse u.0))) (sym s) ∙ drop-append_seam (reverse u.0) (reverse w) in
+    tail-part t (length t - n) ∙ d ∙ sym (stretch-reverse (reverse t)) ∙ ap (stretch []) (reverse-reverse t)
 
-module _ {t : List ℕ} {from at i : ℕ} (b : Back t from at i) (l : at ≤ length t) where
-  pub back_from : i ≤ from → Line t from at i
-  back_from h =
-      let e : i ≡ from = omega (arith, b.on) in
-      record { on = b.on; inside = b.inside; says = ap (λ z. stretch [] (take (at - z) (drop z t))) (sym e) ∙ stretch-line [] (take (at - i) (drop i t)) b.none }
-
-  module _ (h : from < i) where
-    tail_at : take (at - (i - 1)) (drop (i - 1) t) ≡ get_or t (i - 1) 0 ∷ take (at - i) (drop i t)
-    tail_at =
-        let a : at - (i - 1) ≡ suc (at - i) = omega (arith, b.inside) in
-        let c : suc (i - 1) ≡ i = omega arith in
-        rw (a, drop-cons t (i - 1) 0 (omega (arith, b.inside)), c) refl
-
-    pub back-newline : get_or t (i - 1) 0 ≡ 10 → Line t from at i
-    back-newline e =
-        let n = i - 1 - from in
-        let a : n + (at - (i - 1)) ≡ at - from = omega (arith, b.inside) in
-        let c : from + n ≡ i - 1 = omega arith in
-        let p : take (at - from) (drop from t) ≡ take n (drop from t) ++ (get_or t (i - 1) 0 ∷ take (at - i) (drop i t)) =
-        ap (λ z. take z (drop from t)) (sym a) ∙ take-add n (at - (i - 1)) (drop from t) ∙ ap (λ z. take n (drop from t) ++ take (at - (i - 1)) z) (drop-drop n from t ∙ ap (λ z. drop z t) c) ∙ ap (λ z. take n (drop from t) ++ z) tail_at in
-        record {
-          on = b.on;
-          inside = b.inside;
-          says = ap (stretch []) p ∙ stretch-append [] (take n (drop from t)) (get_or t (i - 1) 0 ∷ take (at - i) (drop i t)) ∙ stretch-newline (stretch [] (take n (drop from t))) (take (at - i) (drop i t)) (get_or t (i - 1) 0) e ∙ stretch-line [] (take (at - i) (drop i t)) b.none;
-        }
-
-    pub back_on : (get_or t (i - 1) 0 ≡ 10 → ⊥) → Back t from at (i - 1)
-    unfolding all but
-    back_on e = record { on = omega arith; inside = omega (arith, b.inside); none = rw (tail_at, ne_eqb (get_or t (i - 1) 0) 10 e) b.none }
-
--- Is a mark behind the stretch commented.
-pub comment_says : {t : List ℕ} {from at s k : ℕ} {r : Bool} → Line t from at s → Spans blank (take (at - s) (drop s t)) 0 k → Starts (bytes "//") (take (at - s) (drop s t)) k r → r ≡ commented (stretch [] (take (at - from) (drop from t)))
+-- Is a mark behind the text commented.
+pub comment_says : (t : List ℕ) {n k : ℕ} {r : Bool} → n ≡ length (take_while (not_byte 10) (reverse t)) → Spans blank (take (length t - (length t - n)) (drop (length t - n) t)) 0 k → Starts (bytes "//") (take (length t - (length t - n)) (drop (length t - n) t)) k r →
+    r ≡ commented (stretch [] t)
 unfolding commented
-comment_says {t} {from} {at} {s} l b x = sym (ap (λ z. prefix (bytes "//") (span blank z).1) l.says ∙ ap (prefix (bytes "//")) b.rest ∙ x.says)
+comment_says t e b x = sym (ap (λ z. prefix (bytes "//") (span blank z).1) (sym (last-line t e)) ∙ ap (prefix (bytes "//")) b.rest ∙ x.says)

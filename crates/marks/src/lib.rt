@@ -2,10 +2,10 @@
 // stands there.
 #![tactic(auto)]
 
-ghost use Rattle.std.specs.Prelude.{◌≡◌, [], ◌≤◌, length, drop};
+ghost use Rattle.std.specs.Prelude.{◌≡◌, [], ◌≤◌, length, drop, reverse, take_while};
+ghost use Rattle.scan.specs.Sets.{not_byte};
 ghost use Rattle.rules.specs.Includes.{commented};
-ghost use Rattle.scan.specs.Sets.{part};
-ghost use Rattle.marks.specs.Marks.{mark_at, mark_text, NextMark, stretch, Line};
+ghost use Rattle.marks.specs.Marks.{mark_at, mark_text, NextMark, stretch};
 
 use scan::Set;
 
@@ -13,99 +13,76 @@ pub mod ahead;
 pub mod read;
 
 // The marks.
-#[derive(Clone, Copy)]
+#[derive(Clone, Copy, Debug, PartialEq, Eq)]
 pub enum Mark {
     Include,
     SourceInclude,
 }
 
-// The mark that stands at a place, or none.
-#[derive(Clone, Copy)]
-pub enum Found {
-    Mark(Mark),
-    Nothing,
-}
-
-// How many bytes a mark has.
-pub fn mark_length(mark: Mark) -> usize
-    ensures { result ≡ length (mark_text mark) }
-{
-    match mark {
-        Mark::Include => b"#include".len(),
-        Mark::SourceInclude => b"#source-include".len(),
+impl Mark {
+    // How many bytes the mark has.
+    pub fn len(self) -> usize
+        ensures { result ≡ length (mark_text self) }
+    {
+        match self {
+            Mark::Include => b"#include".len(),
+            Mark::SourceInclude => b"#source-include".len(),
+        }
     }
 }
 
 // The mark that stands at a place.
-fn mark_at(text: &[u8], at: usize) -> Found
+fn mark_at(text: &[u8], at: usize) -> Option<Mark>
     requires { at ≤ length text.now }
     ensures { result ≡ mark_at (drop at text.now) }
 {
     if scan::starts_with(text, at, b"#include") {
-        return Found::Mark(Mark::Include);
+        return Some(Mark::Include);
     }
     if scan::starts_with(text, at, b"#source-include") {
-        return Found::Mark(Mark::SourceInclude);
+        return Some(Mark::SourceInclude);
     }
-    Found::Nothing
+    None
 }
 
-// The next mark and its place; nothing at the end of the text.
+// The next mark and its place, or the end of the text.
 #[derive(Clone, Copy)]
 pub struct Next {
     pub at: usize,
-    pub found: Found,
+    pub mark: Option<Mark>,
 }
 
 // The next mark from a place on.
 pub fn next_mark(text: &[u8], from: usize) -> Next
     requires { from ≤ length text.now }
-    ensures { NextMark text.now from result.at result.found }
+    ensures { NextMark text.now from result.at result.mark }
 {
     let mut i = from;
     loop {
-        let j = scan::find(text, i, b'#');
-        if text.len() <= j {
-            return Next {
-                at: j,
-                found: Found::Nothing,
-            };
+        let at = scan::find(text, i, b'#');
+        if text.len() <= at {
+            return Next { at, mark: None };
         }
-        let found = mark_at(text, j);
-        match found {
-            Found::Mark(_) => {
-                return Next {
-                    at: j,
-                    found: found,
-                };
-            }
-            Found::Nothing => i = j + 1,
+        let mark = mark_at(text, at);
+        match mark {
+            Some(_) => return Next { at, mark },
+            None => i = at + 1,
         }
     }
 }
 
-// Where the stretch before a place begins: behind the last newline, or at `from`.
-fn line_start(text: &[u8], from: usize, at: usize) -> usize
-    requires { (from ≤ at) × (at ≤ length text.now) }
-    ensures { Line text.now from at result }
+// How many bytes stand behind the last newline of a text.
+fn last_line(text: &[u8]) -> usize
+    ensures { result ≡ length (take_while (not_byte 10) (reverse text.now)) }
 {
-    let mut i = at;
-    while from < i {
-        if text[i - 1] == b'\n' {
-            return i;
-        }
-        i -= 1;
-    }
-    i
+    text.iter().rev().take_while(|x| **x != b'\n').count()
 }
 
-// Does the stretch before a place start, blanks skipped, with `//`?
-pub fn commented(text: &[u8], from: usize, at: usize) -> bool
-    requires { (from ≤ at) × (at ≤ length text.now) }
-    ensures { result ≡ commented (stretch [] (part text.now from at)) }
+// Does the last line of a text start, blanks skipped, with `//`?
+pub fn commented(text: &[u8]) -> bool
+    ensures { result ≡ commented (stretch [] text.now) }
 {
-    let s = line_start(text, from, at);
-    let line = &text[s..at];
+    let line = &text[text.len() - last_line(text)..];
     let k = scan::span(line, 0, Set::Blank);
     scan::starts_with(line, k, b"//")
 }

@@ -1,189 +1,187 @@
 // What stands at a mark, read whole before anything of it is output.
-ghost use Rattle.std.specs.Prelude.{◌≡◌, [], ◌+◌, ◌≤◌, length, drop};
+ghost use Rattle.std.specs.Prelude.{◌≡◌, [], ◌+◌, ◌≤◌, length, List, ℕ, drop};
 ghost use Rattle.rules.specs.Reader.{bytes};
+ghost use Rattle.rules.specs.Bytes.{trim};
 ghost use Rattle.rules.specs.Includes.{include_mark, source_mark, include_step};
-ghost use Rattle.scan.specs.Sets.{not_byte, part, Stands};
-ghost use Rattle.marks.specs.Ahead.{Knows, KnowsAll};
+ghost use Rattle.scan.specs.Sets.{part, Stands};
 ghost use Rattle.marks.specs.Marks.{IsMark, mark_text, stretch};
-ghost use Rattle.marks.specs.Read.{copied_read, known_pair, Reads, Behinds, HasPath};
+ghost use Rattle.marks.specs.Read.{Copies, Reads, Behinds, HasPath};
 
-use crate::ahead::{Ahead, Known, Pair, next, quote};
-use crate::{Mark, commented, mark_length};
-use paths::trim;
+use crate::ahead::{Quoted, Quotes, Search};
+use crate::{Mark, commented};
 use scan::Set;
+use std::marker::Model;
 
 // A part of the text is copied; a file is included, its path trimmed; a source is shown, its path trimmed, with its language.
 #[derive(Clone, Copy)]
-pub enum Reading {
-    Copied {
-        from: usize,
-        to: usize,
-    },
-    Include {
-        from: usize,
-        to: usize,
-    },
-    Source {
-        from: usize,
-        to: usize,
-        start: usize,
-        end: usize,
-    },
+pub enum Reading<'a> {
+    Copied(&'a [u8]),
+    Include(&'a [u8]),
+    Source { path: &'a [u8], language: &'a [u8] },
 }
 
-// What was read, whether it is whole (section 6), where reading goes on, and what is known of what lies ahead.
+// What was read, whether it is whole (section 6), and where reading goes on.
 #[derive(Clone, Copy)]
-pub struct Read {
-    pub what: Reading,
+pub struct Read<'a> {
+    pub what: Reading<'a>,
     pub whole: bool,
     pub next: usize,
-    pub known: Known,
+}
+
+// A text without the blanks at both ends.
+fn trimmed<'a>(text: &'a [u8]) -> &'a [u8]
+    ensures { result.now ≡ trim text.now }
+{
+    let inner = paths::trim(text, 0, text.len());
+    &text[inner.from..inner.to]
 }
 
 // A mark that is copied.
-fn copied(at: usize, behind: usize, whole: bool, known: Known) -> Read
-    ensures { result ≡ copied_read at behind whole known }
+fn copied<'a>(text: &'a [u8], at: usize, behind: usize, whole: bool) -> Read<'a>
+    requires { (at ≤ behind) × (behind ≤ length text.now) }
+    ensures { Copies (part text.now at behind) whole behind result }
 {
     Read {
-        what: Reading::Copied {
-            from: at,
-            to: behind,
-        },
-        whole: whole,
+        what: Reading::Copied(&text[at..behind]),
+        whole,
         next: behind,
-        known: known,
     }
 }
 
-// What is known after a pair of quotes was read.
-fn paired(known: Known, q: Pair) -> Known
-    ensures { result ≡ known_pair known q }
-{
-    let one = q.first;
-    let two = q.second;
-    let three = known.three;
-    let four = known.four;
-    let line = known.line;
-    Known {
-        one: one,
-        two: two,
-        three: three,
-        four: four,
-        line: line,
-    }
-}
-
-// `#include` at a place, read from behind it.
-fn include(text: &[u8], at: usize, behind: usize, known: Known) -> Read
-    requires { Stands (bytes "#include") text.now at behind × KnowsAll text.now known }
-    ensures { Reads include_mark text.now behind behind result }
-{
-    let q = quote(text, behind, known.one, known.two);
-    let seen = paired(known, q);
-    if !q.found {
-        return copied(at, behind, false, seen);
-    }
-    let path = trim(text, q.from, q.to);
-    Read {
-        what: Reading::Include {
-            from: path.from,
-            to: path.to,
-        },
-        whole: true,
-        next: q.to + 1,
-        known: seen,
-    }
-}
-
-// Where reading goes on behind a source: behind the first newline after the first `)`; without it behind the `)`.
+// Where reading goes on behind a source, and whether that is behind a newline.
 #[derive(Clone, Copy)]
 pub struct Behind {
     pub whole: bool,
     pub next: usize,
-    pub line: Ahead,
 }
 
-fn behind_source(text: &[u8], at: usize, line: Ahead) -> Behind
-    requires { (at ≤ length text.now) × Knows (not_byte 10) text.now line }
-    ensures { Behinds text.now at result }
-{
-    let paren = scan::find(text, at, b')');
-    let from = scan::skip(text, paren);
-    let end = next(text, from, b'\n', line);
-    let to = end.to;
-    if to < text.len() {
-        return Behind {
-            whole: true,
-            next: to + 1,
-            line: end,
-        };
-    }
-    Behind {
-        whole: false,
-        next: from,
-        line: end,
-    }
+// A text that is read for marks, with the searches for the quotes of a path, for those of a language, and for the newline behind `)`.
+#[derive(Drop)]
+pub struct Reader<'a> {
+    text: &'a [u8],
+    path: Quotes<'a>,
+    language: Quotes<'a>,
+    line: Search<'a, b'\n'>,
 }
 
-// `#source-include` with its path q, read from behind that.
-fn source(text: &[u8], behind: usize, q: Pair, known: Known) -> Read
-    requires { HasPath text.now behind q × KnowsAll text.now known }
-    ensures { Reads source_mark text.now behind behind result }
-{
-    let l = quote(text, q.to + 1, known.three, known.four);
-    let e = behind_source(text, behind, known.line);
-    let path = trim(text, q.from, q.to);
-    let one = q.first;
-    let two = q.second;
-    let three = l.first;
-    let four = l.second;
-    let line = e.line;
-    Read {
-        what: Reading::Source {
-            from: path.from,
-            to: path.to,
-            start: l.from,
-            end: l.to,
-        },
-        whole: l.found & e.whole,
-        next: e.next,
-        known: Known {
-            one: one,
-            two: two,
-            three: three,
-            four: four,
-            line: line,
-        },
-    }
+impl<'a> Model for Reader<'a> {
+    ghost Value = { List ℕ };
+
+    ghost view = { λ r. r.text.now };
+
+    ghost invariant = { λ r. (r.path ≡ r.text.now) × (r.language ≡ r.text.now) × (r.line ≡ r.text.now) };
 }
 
-// `#source-include` at a place, read from behind it.
-fn source_include(text: &[u8], at: usize, behind: usize, known: Known) -> Read
-    requires { Stands (bytes "#source-include") text.now at behind × KnowsAll text.now known }
-    ensures { Reads source_mark text.now behind behind result }
-{
-    let i = scan::span(text, behind, Set::Blank);
-    if !scan::at(text, i, b'(') {
-        return copied(at, behind, i < text.len(), known);
+impl<'a> Reader<'a> {
+    // The reader of a text.
+    pub fn new(text: &'a [u8]) -> Reader<'a>
+        ensures { result ≡ text.now }
+    {
+        Reader {
+            text,
+            path: Quotes::new(text),
+            language: Quotes::new(text),
+            line: Search::new(text),
+        }
     }
-    let q = quote(text, i + 1, known.one, known.two);
-    if !q.found {
-        return copied(at, behind, false, paired(known, q));
-    }
-    source(text, behind, q, known)
-}
 
-// A mark at a place; the remaining text began at `from`.
-pub fn read_mark(text: &[u8], from: usize, at: usize, mark: Mark, known: Known) -> Read
-    requires { (from ≤ at) × (at ≤ length text.now) × IsMark mark (drop at text.now) × KnowsAll text.now known }
-    ensures { Reads (λ v inside g. include_step v inside g (stretch [] (part text.now from at))) text.now at (at + length (mark_text mark)) result }
-{
-    let behind = at + mark_length(mark);
-    if commented(text, from, at) {
-        return copied(at, behind, true, known);
+    // `#include` at a place, read from behind it.
+    fn include(&mut self, at: usize, behind: usize) -> Read<'a>
+        requires { Stands (bytes "#include") self.old at behind }
+        ensures reads { Reads include_mark self.old behind behind result }
+        ensures same { self.new ≡ self.old }
+    {
+        match self.path.next(behind) {
+            Some(path) => Read {
+                what: Reading::Include(trimmed(path.text)),
+                whole: true,
+                next: path.next,
+            },
+            None => copied(self.text, at, behind, false),
+        }
     }
-    match mark {
-        Mark::Include => include(text, at, behind, known),
-        Mark::SourceInclude => source_include(text, at, behind, known),
+
+    // Where reading goes on behind a source: behind the first newline after the first `)`; without it behind the `)`.
+    fn behind_source(&mut self, at: usize) -> Behind
+        requires { at ≤ length self.old }
+        ensures ends { Behinds self.old at result }
+        ensures same { self.new ≡ self.old }
+    {
+        let text = self.text;
+        let paren = scan::find(text, at, b')');
+        let from = scan::skip(text, paren);
+        let to = self.line.next(from);
+        if to < text.len() {
+            return Behind {
+                whole: true,
+                next: to + 1,
+            };
+        }
+        Behind {
+            whole: false,
+            next: from,
+        }
+    }
+
+    // `#source-include` with its path, read from behind that.
+    fn source(&mut self, behind: usize, path: Quoted<'a>) -> Read<'a>
+        requires { HasPath self.old behind path }
+        ensures reads { Reads source_mark self.old behind behind result }
+        ensures same { self.new ≡ self.old }
+    {
+        let end = self.behind_source(behind);
+        match self.language.next(path.next) {
+            Some(language) => Read {
+                what: Reading::Source {
+                    path: trimmed(path.text),
+                    language: language.text,
+                },
+                whole: end.whole,
+                next: end.next,
+            },
+            None => Read {
+                what: Reading::Source {
+                    path: trimmed(path.text),
+                    language: b"",
+                },
+                whole: false,
+                next: end.next,
+            },
+        }
+    }
+
+    // `#source-include` at a place, read from behind it.
+    fn source_include(&mut self, at: usize, behind: usize) -> Read<'a>
+        requires { Stands (bytes "#source-include") self.old at behind }
+        ensures reads { Reads source_mark self.old behind behind result }
+        ensures same { self.new ≡ self.old }
+    {
+        let text = self.text;
+        let i = scan::span(text, behind, Set::Blank);
+        if !scan::at(text, i, b'(') {
+            return copied(text, at, behind, i < text.len());
+        }
+        match self.path.next(i + 1) {
+            Some(path) => self.source(behind, path),
+            None => copied(text, at, behind, false),
+        }
+    }
+
+    // A mark at a place; the remaining text began at `from`.
+    pub fn read(&mut self, from: usize, at: usize, mark: Mark) -> Read<'a>
+        requires { (from ≤ at) × (at ≤ length self.old) × IsMark mark (drop at self.old) }
+        ensures reads { Reads (λ v inside g. include_step v inside g (stretch [] (part self.old from at))) self.old at (at + length (mark_text mark)) result }
+        ensures same { self.new ≡ self.old }
+    {
+        let text = self.text;
+        let behind = at + mark.len();
+        let before = &text[from..at];
+        if commented(before) {
+            return copied(text, at, behind, true);
+        }
+        match mark {
+            Mark::Include => self.include(at, behind),
+            Mark::SourceInclude => self.source_include(at, behind),
+        }
     }
 }

@@ -1,18 +1,20 @@
 -- Paths: how far a segment has been read, and what the functions of `paths` promise.
-use Rattle.std.specs.Prelude.{◌≡◌, refl, List, [], ◌∷◌, ◌++◌, Bool, true, false, not, ◌&&◌, ◌||◌, leb, ltb, eqb, drop, get_or, set, ℕ, suc, ◌+◌, ◌-◌, ◌≤◌, ◌<◌}
+use Rattle.std.specs.Prelude.{◌≡◌, refl, Option, None, Some, List, [], ◌∷◌, ◌++◌, Bool, true, false, not, ◌&&◌, leb, eqb, drop, get_or, ℕ, zero, suc, ◌+◌, ◌-◌, ◌≤◌, ◌<◌}
 use Rattle.std.proofs.Math.Path.{sym, ap}
-use Rattle.std.proofs.Common.{◌∙◌, append_assoc, append-nil, true≢false, length-set, drop_of_length-le, length-append, length-drop, length-take-le, drop-cons, take-suc, take_all, take-take, take-suc-set, drop-drop, get_or-append-add, arith, add-one, le-leb, eq-eqb, ne_eqb, ltb-true}
+use Rattle.std.proofs.Common.{◌∙◌, length-append, length-drop, length-take-le, take-suc, take_all, take-take, drop-drop, arith, le-leb, eq-eqb, ne_eqb}
 use Rattle.std.proofs.Math.Bool.{and-true, and-false}
 use Rattle.std.proofs.Math.Dec.{eqb-suc-suc}
-use Rattle.std.proofs.Math.ListN.{length, take, get_or-append}
-use Rattle.std.proofs.Math.Seq.{get_or-append_seam}
-use Rattle.std.proofs.lemmas.Bool.{lt-leb}
+use Rattle.std.proofs.Math.ListN.{length, take}
+use Rattle.std.proofs.lemmas.Bool.{lt-leb, eqb-true, eqb-false}
+use Rattle.std.proofs.lemmas.List.Sums.{suffix_len-take_yes, suffix_len-take_no}
+use Rattle.std.specs.List.{fold, suffix_len}
+use Rattle.std.specs.Option.{unwrap_or}
+use Rattle.memchr.specs.Find.{IsLastByte, is_byte}
 use Rattle.rules.specs.Reader.{the, but, all, empty, prefix, same, bytes}
-use Rattle.rules.specs.Bytes.{blank, run_byte, prepend, split, is_segment, is_path, is_folder, holds, parent, join, trim, trim_end}
+use Rattle.rules.specs.Bytes.{blank, run_byte, prepend, split, is_segment, is_path, is_folder, holds, parent, trim, trim_end}
 use Rattle.scan.specs.Sets.{Spans}
 use Rattle.scan.specs.Laws.{drop-take, tail-part, not-empty}
-use Rattle.paths.specs.declared.Joined.{Joined}
-use Rattle.paths.specs.declared.Range.{Range}
+use Rattle.scan.specs.declared.Range.{Range}
 use Rattle.paths.specs.declared.Segment.{Segment}
 use Rattle.paths.specs.declared.Segment.TheVariants.{Empty, Dot, Dots, Good, Bad}
 
@@ -196,21 +198,14 @@ path-ends p h = rw (le-leb (length p) 255 h) (at p)
     at [] = refl
     at (x ∷ xs) = rw (le-leb 1 (length (x ∷ xs)) (omega arith)) (sym (froms-all (split "/" (x ∷ xs))) ∙ froms-ends Empty (x ∷ xs))
 
--- The pass over a path stands at i, its segment read as far as s.
-pub record Reading (p : List ℕ) (i : ℕ) (s : Segment) : Type 0 where
-  pub inside : i ≤ length p
-  pub rest : is_path p ≡ ends s (drop i p)
-
-pub reading-start : (p : List ℕ) → length p ≤ 255 → Reading p 0 Empty
-reading-start p h = record { inside = omega arith; rest = path-ends p h }
-
-pub reading-on : {p : List ℕ} {i : ℕ} {s : Segment} → Reading p i s → i < length p → {r : Segment} → r ≡ step s (get_or p i 0) → Reading p (i + 1) r
+-- One pass over a path, by `fold`.
+ends-fold : (s : Segment) (t : List ℕ) → whole (fold step s t) ≡ ends s t
 unfolding ends
-reading-on {p} {i} {s} k h {r} e = record { inside = omega arith; rest = k.rest ∙ rw (e, add-one, drop-cons p i 0) refl }
+ends-fold s [] = refl
+ends-fold s (x ∷ xs) = ends-fold (step s x) xs
 
-pub reading-end : {p : List ℕ} {i : ℕ} {s : Segment} → Reading p i s → length p ≤ i → {r : Bool} → r ≡ whole s → r ≡ is_path p
-unfolding ends
-reading-end {p} {i} {s} k h {r} e = e ∙ sym (k.rest ∙ rw (drop_of_length-le p h) refl)
+pub path-fold : (p : List ℕ) → length p ≤ 255 → whole (fold step Empty p) ≡ is_path p
+path-fold p h = ends-fold Empty p ∙ sym (path-ends p h)
 
 pub folder-empty : (g : List ℕ) → length g ≡ 0 → true ≡ is_folder g
 unfolding is_folder empty
@@ -254,116 +249,54 @@ holds-other : (x : ℕ) (xs : List ℕ) → (x ≡ 47 → ⊥) → holds "/" (x 
 unfolding holds all but
 holds-other x xs h = rw (ne_eqb x 47 h) refl
 
-holds_later : (x : ℕ) (xs : List ℕ) (c : Bool) → all (but "/") xs ≡ c → holds "/" (x ∷ xs) ≡ false → holds "/" xs ≡ false
+-- No byte from k on is `/`.
+abbrev NoSlash : List ℕ → ℕ → Type 0
+NoSlash p k = (j : ℕ) → k ≤ j → j < length p → get_or p j 0 ≡ 47 → ⊥
+
+no-slash : (p : List ℕ) → NoSlash p 0 → holds "/" p ≡ false
 unfolding holds all
-holds_later x xs true q h = rw q
-holds_later x xs false q h = absurd (true≢false (rw (q, and-false) at h))
+no-slash [] h = refl
+no-slash (x ∷ xs) h = holds-other x xs (h 0 (omega arith) (omega arith)) ∙ no-slash xs (λ j a b. h (suc j) (omega arith) (omega arith))
 
-parent-none : (p : List ℕ) → holds "/" p ≡ false → parent p ≡ []
-unfolding parent
-parent-none [] h = refl
-parent-none (x ∷ xs) h = rw (holds_later x xs (all (but "/") xs) refl h, parent)
-
--- The folder, with i bytes passed and the last `/` at n, by whether there is another `/`.
-abbrev pub climb : List ℕ → ℕ → ℕ → Bool → List ℕ
-climb p i n true = take i p ++ parent (drop i p)
-climb p i n false = take n p
-
-pub record Climbing (p : List ℕ) (i n : ℕ) : Type 0 where
-  pub inside : i ≤ length p
-  pub below : n ≤ i
-  pub rest : parent p ≡ climb p i n (holds "/" (drop i p))
-
-climb-next : (p : List ℕ) (i : ℕ) (xs : List ℕ) (x : ℕ) → i < length p → x ≡ get_or p i 0 → take i p ++ (x ∷ parent xs) ≡ take (suc i) p ++ parent xs
-climb-next p i xs x h e = rw (take-suc p i 0 h, append_assoc, e) refl
+some-slash : (p : List ℕ) (k : ℕ) → k < length p → get_or p k 0 ≡ 47 → holds "/" p ≡ true
+some-slash [] k h e = absurd (omega arith)
+some-slash (x ∷ xs) zero h e = holds-slash x xs e
+some-slash (x ∷ xs) (suc k) h e = at (eqb x 47) refl (some-slash xs k (omega arith) e)
+  where
+    at : (c : Bool) → eqb x 47 ≡ c → holds "/" xs ≡ true → holds "/" (x ∷ xs) ≡ true
+    at true q ih = holds-slash x xs (eqb-true x 47 q)
+    at false q ih = holds-other x xs (eqb-false x 47 q) ∙ ih
 
 parent-cons : (x : ℕ) (xs : List ℕ) (c : Bool) → holds "/" xs ≡ c → parent (x ∷ xs) ≡ elim c [ true ↦ x ∷ parent xs | false ↦ [] ]
 unfolding parent
 parent-cons x xs c q = rw (q, parent)
 
-pub climbing-start : (p : List ℕ) → Climbing p 0 0
-climbing-start p = record { inside = omega arith; below = omega arith; rest = at (holds "/" p) refl }
+-- What stands before the last `/`, and where there is none.
+last-slash : (p : List ℕ) (k : ℕ) → k < length p → get_or p k 0 ≡ 47 → NoSlash p (suc k) → take k p ≡ parent p
+last-slash [] k h e n = absurd (omega arith)
+last-slash (x ∷ xs) zero h e n = sym (parent-cons x xs false (no-slash xs (λ j a b. n (suc j) (omega arith) (omega arith))))
+last-slash (x ∷ xs) (suc k) h e n =
+    ap (λ z. x ∷ z) (last-slash xs k (omega arith) e (λ j a b. n (suc j) (omega arith) (omega arith)))
+    ∙ sym (parent-cons x xs true (some-slash xs k (omega arith) e))
+
+parent-last : {p : List ℕ} {k : ℕ} → k < length p → get_or p k 0 ≡ 47 → NoSlash p (suc k) → Parent p k
+parent-last {p} {k} h e n = record { inside = omega arith; text = last-slash p k h e n }
+
+parent-nil : parent [] ≡ []
+unfolding parent
+parent-nil = refl
+
+parent-none : {p : List ℕ} → NoSlash p 0 → Parent p 0
+parent-none {p} n = record { inside = omega arith; text = at p n }
   where
-    at : (c : Bool) → holds "/" p ≡ c → parent p ≡ climb p 0 0 c
-    at true q = refl
-    at false q = parent-none p q
+    at : (p : List ℕ) → NoSlash p 0 → [] ≡ parent p
+    at [] n = sym parent-nil
+    at (x ∷ xs) n = sym (parent-cons x xs false (no-slash xs (λ j a b. n (suc j) (omega arith) (omega arith))))
 
-module _ {p : List ℕ} {i n : ℕ} (k : Climbing p i n) where
-  pub climbing-slash : i < length p → get_or p i 0 ≡ 47 → {m : ℕ} → m ≡ i → Climbing p (i + 1) m
-  climbing-slash h e {m} w = rw (w, add-one) (record { inside = omega arith; below = omega arith; rest = k.rest ∙ at (holds "/" (drop (suc i) p)) refl })
-    where
-      at : (c : Bool) → holds "/" (drop (suc i) p) ≡ c → climb p i n (holds "/" (drop i p)) ≡ climb p (suc i) i (holds "/" (drop (suc i) p))
-      at true q = rw (q, drop-cons p i 0, holds-slash (get_or p i 0) (drop (suc i) p) e) (rw (drop-cons p i 0, parent-cons (get_or p i 0) (drop (suc i) p) true q) (climb-next p i (drop (suc i) p) (get_or p i 0) h refl))
-      at false q = rw (q, drop-cons p i 0, holds-slash (get_or p i 0) (drop (suc i) p) e) (rw (drop-cons p i 0, parent-cons (get_or p i 0) (drop (suc i) p) false q) (append-nil (take i p)))
-
-  pub climbing-other : i < length p → (get_or p i 0 ≡ 47 → ⊥) → {m : ℕ} → m ≡ n → Climbing p (i + 1) m
-  climbing-other h e {m} w = rw (w, add-one) (record { inside = omega arith; below = omega (arith, k.below); rest = k.rest ∙ at (holds "/" (drop (suc i) p)) refl })
-    where
-      at : (c : Bool) → holds "/" (drop (suc i) p) ≡ c → climb p i n (holds "/" (drop i p)) ≡ climb p (suc i) n (holds "/" (drop (suc i) p))
-      at true q = rw (q, drop-cons p i 0, holds-other (get_or p i 0) (drop (suc i) p) e, q) (rw (drop-cons p i 0, parent-cons (get_or p i 0) (drop (suc i) p) true q) (climb-next p i (drop (suc i) p) (get_or p i 0) h refl))
-      at false q = rw (q, drop-cons p i 0, holds-other (get_or p i 0) (drop (suc i) p) e, q) refl
-
-  pub climbing-end : length p ≤ i → Parent p n
-  unfolding holds all
-  climbing-end h = record { inside = omega (arith, k.below, k.inside); text = sym (k.rest ∙ rw (drop_of_length-le p h) refl) }
-
--- JOINING. r is the length of a joined path, as far as it counts.
-pub record JoinedLen (g p : List ℕ) (r : ℕ) : Type 0 where
-  pub fits : r ≤ 255 → r ≡ length (join g p)
-  pub over : 255 < r → 255 < length (join g p)
-
-join-empty : (g p : List ℕ) → length g ≡ 0 → join g p ≡ p
-unfolding join empty
-join-empty [] p h = refl
-join-empty (x ∷ xs) p h = absurd (omega arith)
-
-join-some : (g p : List ℕ) → (length g ≡ 0 → ⊥) → join g p ≡ g ++ (47 ∷ p)
-unfolding join empty
-join-some [] p h = absurd (h refl)
-join-some (x ∷ xs) p h = refl
-
-module _ (g p : List ℕ) where
-  pub joined-len-empty : length g ≡ 0 → JoinedLen g p (length p)
-  joined-len-empty h = let e = ap length (join-empty g p h) in record { fits = λ k. sym e; over = λ k. rw e k }
-
-  module _ (n : length g ≡ 0 → ⊥) where
-    join-length : length (join g p) ≡ length g + suc (length p)
-    join-length = ap length (join-some g p n) ∙ length-append g (47 ∷ p)
-
-    pub joined-len-over : (ltb 255 (length g) || ltb 255 (length p)) ≡ true → JoinedLen g p 256
-    joined-len-over h = record { fits = λ k. absurd (omega arith); over = λ k. at (ltb 255 (length g)) (ltb 255 (length p)) refl refl h }
-      where
-        at : (c d : Bool) → ltb 255 (length g) ≡ c → ltb 255 (length p) ≡ d → (c || d) ≡ true → 255 < length (join g p)
-        at true d q r t = omega (arith, join-length, ltb-true 255 (length g) q)
-        at false true q r t = omega (arith, join-length, ltb-true 255 (length p) r)
-        at false false q r t = absurd (true≢false (sym t))
-
-    pub joined-len-sum : JoinedLen g p (length g + 1 + length p)
-    joined-len-sum = record { fits = λ k. omega (arith, join-length); over = λ k. omega (arith, join-length) }
-
-  module _ (i : ℕ) (h : i < length (join g p)) where
-    pub joined-empty : length g ≡ 0 → (i < length p) × (get_or p i 0 ≡ get_or (join g p) i 0)
-    joined-empty e = (rw (join-empty g p e) at h, rw (join-empty g p e) refl)
-
-    module _ (n : length g ≡ 0 → ⊥) where
-      pub joined-folder : i < length g → get_or g i 0 ≡ get_or (join g p) i 0
-      joined-folder k = rw (join-some g p n) (sym (get_or-append g (47 ∷ p) 0 i k))
-
-      pub joined-slash : i ≡ length g → 47 ≡ get_or (join g p) i 0
-      joined-slash k = rw (join-some g p n, k) (sym (get_or-append_seam g 47 p 0))
-
-      pub joined-path : length g < i → (i - length g - 1 < length p) × (get_or p (i - length g - 1) 0 ≡ get_or (join g p) i 0)
-      joined-path k =
-          let e : length g + suc (i - length g - 1) ≡ i = omega arith in
-          let l : length (join g p) ≡ length g + suc (length p) = join-length n in
-          (omega arith, rw (join-some g p n) (sym (rw e at (get_or-append-add g (47 ∷ p) (suc (i - length g - 1)) 0))))
-
--- A path joined to a folder, where it has at most 255 bytes.
-pub record Joins (g p : List ℕ) (r : Joined) : Type 0 where
-  pub says : r.ok ≡ leb (length (join g p)) 255
-  pub fits : r.len ≤ 255
-  pub size : length r.bytes ≡ 255
-  pub text : r.ok ≡ true → take r.len r.bytes ≡ join g p
+-- What `memrchr` finds.
+pub parent-found : (p : List ℕ) (r : Option ℕ) {k : ℕ} → IsLastByte (is_byte 47) p r → k ≡ unwrap_or r 0 → Parent p k
+parent-found p None f e = rw e (parent-none (λ j a b z. f j a b (eq-eqb _ _ z)))
+parent-found p (Some k) f e = rw e (parent-last f.0.high (eqb-true _ _ f.1) (λ j a b z. f.0.after j (omega arith) b (eq-eqb _ _ z)))
 
 -- TRIMMING. n bytes are left without the trailing blanks.
 pub record TrimsEnd (t : List ℕ) (n : ℕ) : Type 0 where
@@ -376,28 +309,6 @@ pub record Trims (t : List ℕ) (from to : ℕ) (r : Range) : Type 0 where
   pub order : r.from ≤ r.to
   pub ends : r.to ≤ to
   pub text : take (r.to - r.from) (drop r.from t) ≡ trim (take (to - from) (drop from t))
-
--- The bytes of a joined path up to i.
-pub record Copied (j b : List ℕ) (i n : ℕ) : Type 0 where
-  pub inside : i ≤ n
-  pub size : length b ≡ 255
-  pub text : take i b ≡ take i j
-
-pub copied-start : (j b : List ℕ) (n : ℕ) → length b ≡ 255 → Copied j b 0 n
-copied-start j b n l = record { inside = omega arith; size = l; text = refl }
-
-pub copied_on : {j b : List ℕ} {i n : ℕ} → Copied j b i n → {x : ℕ} → i < n → n ≡ length j → n ≤ 255 → x ≡ get_or j i 0 → Copied j (set b i x) (i + 1) n
-copied_on {j} {b} {i} {n} k {x} h e l q = rw add-one (record { inside = h; size = length-set b i x ∙ k.size; text = take-suc-set b i x (omega (arith, k.size)) ∙ rw (k.text, q) (sym (take-suc j i 0 (omega arith))) })
-
-module _ (g p : List ℕ) (n : ℕ) (l : JoinedLen g p n) where
-  pub joins-over : (b : List ℕ) → length b ≡ 255 → 255 < n → Joins g p (record { ok = false; len = 0; bytes = b })
-  joins-over b z h = record { says = sym (lt-leb _ 255 (l.over h)); fits = omega arith; size = z; text = λ e. absurd (true≢false (sym e)) }
-
-  pub joins-all : (b : List ℕ) (i : ℕ) → n ≤ 255 → n ≤ i → Copied (join g p) b i n → Joins g p (record { ok = true; len = n; bytes = b })
-  joins-all b i h m k =
-      let e = l.fits h in
-      let q : i ≡ n = omega (arith, k.inside) in
-      record { says = sym (le-leb (length (join g p)) 255 (omega (arith, e))); fits = h; size = k.size; text = λ z. rw q at k.text ∙ take_all n (join g p) (omega (arith, e)) }
 
 -- Blanks behind a text are trimmed with its own; behind anything else the text stays whole.
 trim_end-cons : (x : ℕ) (xs : List ℕ) (c : Bool) → (blank x && empty (trim_end xs)) ≡ c → trim_end (x ∷ xs) ≡ elim c [ true ↦ [] | false ↦ x ∷ trim_end xs ]
@@ -428,30 +339,52 @@ trim-first (x ∷ xs) = at (blank x && empty (trim_end xs)) refl (trim-first xs)
     at false e ih = let z = trim_end-cons x xs false e in ap (λ y. take (length y) (x ∷ xs)) z ∙ ap (λ y. x ∷ y) ih ∙ sym z
 
 -- Behind n bytes there are blanks alone.
-pub record Trimming (t : List ℕ) (n : ℕ) : Type 0 where
+record Trimming (t : List ℕ) (n : ℕ) : Type 0 where
   pub inside : n ≤ length t
   pub rest : trim_end t ≡ trim_end (take n t)
 
-pub trimming-start : (t : List ℕ) → Trimming t (length t)
+trimming-start : (t : List ℕ) → Trimming t (length t)
 trimming-start t = record { inside = omega arith; rest = ap trim_end (sym (take_all (length t) t (omega arith))) }
 
 module _ {t : List ℕ} {n : ℕ} (k : Trimming t n) (h : 0 < n) where
   last : take n t ≡ take (n - 1) t ++ (get_or t (n - 1) 0 ∷ [])
   last = let e : n ≡ suc (n - 1) = omega arith in ap (λ z. take z t) e ∙ take-suc t (n - 1) 0 (omega (arith, k.inside))
 
-  pub trimming-blank : blank (get_or t (n - 1) 0) ≡ true → Trimming t (n - 1)
+  trimming-blank : blank (get_or t (n - 1) 0) ≡ true → Trimming t (n - 1)
   trimming-blank e = record { inside = omega (arith, k.inside); rest = k.rest ∙ ap trim_end last ∙ trim-append (take (n - 1) t) (get_or t (n - 1) 0 ∷ []) (trim_end-cons (get_or t (n - 1) 0) [] true (unfold trim_end empty in (rw e refl))) }
 
-  pub trimming-stop : blank (get_or t (n - 1) 0) ≡ false → TrimsEnd t n
+  trimming-stop : blank (get_or t (n - 1) 0) ≡ false → TrimsEnd t n
   trimming-stop e =
       let x = get_or t (n - 1) 0 in
       let y : trim_end (x ∷ []) ≡ x ∷ [] = trim_end-cons x [] false (rw e refl) ∙ (unfold trim_end in refl) in
       record { inside = k.inside; text = last ∙ sym (k.rest ∙ ap trim_end last ∙ trim-whole (take (n - 1) t) (x ∷ []) (omega (arith, ap length y)) ∙ ap (λ z. take (n - 1) t ++ z) y) }
 
-pub trimming-none : {t : List ℕ} {n : ℕ} → Trimming t n → n ≤ 0 → TrimsEnd t n
+trimming-none : {t : List ℕ} {n : ℕ} → Trimming t n → n ≤ 0 → TrimsEnd t n
 trimming-none {t} {n} k h =
     let e : n ≡ 0 = omega arith in
     record { inside = k.inside; text = ap (λ z. take z t) e ∙ sym (k.rest ∙ ap (λ z. trim_end (take z t)) e ∙ (unfold trim_end in refl)) }
+
+-- As many blanks as there are from the end.
+module _ (t : List ℕ) where
+  trims-from : (n : ℕ) → Trimming t n → TrimsEnd t (n - suffix_len blank (take n t))
+  trims-from zero k = let e : 0 - suffix_len blank (take 0 t) ≡ 0 = omega arith in rw e (trimming-none k (omega arith))
+  trims-from (suc n) k = at (blank (get_or t n 0)) refl (trims-from n)
+    where
+      z : suc n - 1 ≡ n
+      z = omega arith
+
+      at : (c : Bool) → blank (get_or t n 0) ≡ c → (Trimming t n → TrimsEnd t (n - suffix_len blank (take n t))) → TrimsEnd t (suc n - suffix_len blank (take (suc n) t))
+      at true q ih =
+          let w : suffix_len blank (take (suc n) t) ≡ 1 + suffix_len blank (take n t) = rw z at (suffix_len-take_yes blank t (suc n) 0 (omega arith) k.inside (rw z q)) in
+          let e : suc n - suffix_len blank (take (suc n) t) ≡ n - suffix_len blank (take n t) = omega arith in
+          rw e (ih (rw z at (trimming-blank k (omega arith) (rw z q))))
+      at false q ih =
+          let w = suffix_len-take_no blank t (suc n) 0 (omega arith) k.inside (rw z q) in
+          let e : suc n - suffix_len blank (take (suc n) t) ≡ suc n = omega arith in
+          rw e (trimming-stop k (omega arith) (rw z q))
+
+  pub trims-end : TrimsEnd t (length t - suffix_len blank t)
+  trims-end = let e = take_all (length t) t (omega arith) in rw e at (trims-from (length t) (trimming-start t))
 
 -- The trimmed part: behind the leading blanks, up to the trailing ones.
 pub trims : (t : List ℕ) (from to a n : ℕ) → from ≤ to → to ≤ length t

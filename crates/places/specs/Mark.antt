@@ -1,6 +1,6 @@
 -- A place of a sheet from which a name may be searched for.
-use Rattle.std.specs.Prelude.{◌≡◌, refl, Bool, true, false, ◌&&◌, List, [], ◌++◌, ℕ, ◌+◌, ◌<◌, eqb, length, take, drop}
-use Rattle.std.proofs.Common.{sym, ap, ◌∙◌, append-nil, arith, length-append, drop_of_length-le, ne_eqb}
+use Rattle.std.specs.Prelude.{◌≡◌, refl, Bool, true, false, ◌&&◌, List, [], ◌++◌, ℕ, ◌+◌, ◌<◌, length, take, drop}
+use Rattle.std.proofs.Common.{sym, ap, ◌∙◌, append-nil, arith, length-append, drop_of_length-le}
 use Rattle.std.proofs.Math.Option.{some}
 use Rattle.std.proofs.Math.Seq.{take-append_seam, drop-append_seam}
 use Rattle.scan.specs.Sets.{part}
@@ -10,7 +10,10 @@ use Rattle.rules.proofs.Laws.Bool.{and_i, and_l, and_r}
 use Rattle.rules.proofs.Laws.Sheet.{less-trans, less-same, less_asym, less_up, good-parts, before-set, decode-encode}
 use Rattle.sheet.specs.Parts.{Part, part_slice}
 use Rattle.sheet.specs.Items.{At, join, encode-join}
-use Rattle.sheet.specs.Order.{order_of, order-less}
+use Rattle.std.specs.declared.cmp.Ordering.{Ordering}
+use Rattle.std.specs.Ordering.{nat_cmp, is_gt}
+use Rattle.std.specs.Cmp.Lexicographic.{slice_cmp}
+use Rattle.sheet.specs.Order.{order-less}
 use Rattle.sheet.specs.Find.{IsSheet}
 use Rattle.sheet.specs.Find.{HasRecords}
 use Rattle.places.specs.Place.{Tail, Between, Placing, between_start, set_below, set_same, set_past}
@@ -126,11 +129,11 @@ set-later (rec n u f) m w q name v h g =
     let o : less n name ≡ true = less_up n m name (first-less n u f m w q h) g in
     set_past name n v u (join f (rec m w q)) (less_asym n name o) o ∙ ap (rec n u) (set-later f m w q name v (and_r (before n (join f (rec m w q))) (ascending (join f (rec m w q))) h) g)
 
-module _ {s : List ℕ} {r : Records} {name : List ℕ} {i : ℕ} (o : ascending r ≡ true) (k : There s r i) {a b c : ℕ} (p : Part s a k.m b) (h : c ≡ order_of (part s a b) name) where
-  pub place-there : (c ≡ 2 → ⊥) → Placing s r name i
+module _ {s : List ℕ} {r : Records} {name : List ℕ} {i : ℕ} (o : ascending r ≡ true) (k : There s r i) {a b : ℕ} {c : Ordering} (p : Part s a k.m b) (h : c ≡ slice_cmp nat_cmp (part s a b) name) where
+  pub place-there : is_gt c ≡ false → Placing s r name i
   place-there z =
-      let e : order_of k.m name ≡ c = sym (h ∙ ap (λ y. order_of y name) (part_slice p)) in
-      let g : less name k.m ≡ false = (order-less k.m name).1 ∙ ap (λ y. eqb y 2) e ∙ ne_eqb c 2 z in
+      let e : slice_cmp nat_cmp k.m name ≡ c = sym (h ∙ ap (λ y. slice_cmp nat_cmp y name) (part_slice p)) in
+      let g : less name k.m ≡ false = (order-less k.m name).1 ∙ ap is_gt e ∙ z in
       let t = k.tail in
       let sets : (v : Value) → set r name v ≡ join t.front (set (rec k.m k.w k.q) name v) = λ v. ap (λ y. set y name v) t.whole ∙ set-later t.front k.m k.w k.q name v (rw t.whole at o) g in
       record {

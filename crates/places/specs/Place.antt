@@ -1,5 +1,5 @@
 -- Where a name is bound.
-use Rattle.std.specs.Prelude.{◌≡◌, refl, true, false, List, ◌∷◌, ◌++◌, ℕ, zero, suc, ◌+◌, ◌≤◌, ◌<◌, eqb, length, take, drop}
+use Rattle.std.specs.Prelude.{◌≡◌, refl, true, false, List, ◌∷◌, ◌++◌, ℕ, ◌+◌, ◌≤◌, ◌<◌, length, take, drop}
 use Rattle.std.proofs.Common.{sym, ap, ◌∙◌, append_assoc, append-nil, arith, length-append, drop_of_length-le, take-add}
 use Rattle.std.proofs.Math.Seq.{take-append_seam}
 use Rattle.scan.specs.Sets.{part}
@@ -7,7 +7,11 @@ use Rattle.rules.specs.Bytes.{less}
 use Rattle.rules.specs.Sheet.{Value, Records, end, rec, encode, field_bytes, field_mask, value_bytes, value_mask, set}
 use Rattle.sheet.specs.Parts.{Part, part-all, part-split, part_slice}
 use Rattle.sheet.specs.Items.{At, join, encode-join, join_one}
-use Rattle.sheet.specs.Order.{order_of, order-less, order-three}
+use Rattle.std.specs.declared.cmp.Ordering.{Ordering}
+use Rattle.std.specs.declared.cmp.Ordering.TheVariants.{Less, Equal, Greater}
+use Rattle.std.specs.Ordering.{nat_cmp, is_lt, is_gt}
+use Rattle.std.specs.Cmp.Lexicographic.{slice_cmp}
+use Rattle.sheet.specs.Order.{order-less}
 
 -- The bytes of one record.
 unfoldable pub one : List ℕ → Value → List ℕ
@@ -114,19 +118,13 @@ set_past n m v w r h k = rw (h, k, set) refl
 part-drop : {s x : List ℕ} {i : ℕ} → Part s i x (length s) → drop i s ≡ x
 part-drop {s} {x} p = p.bytes ∙ rw (drop_of_length-le s {i = length s} (omega arith)) (append-nil x)
 
-zero_of : (c : ℕ) → (c ≡ 1 → ⊥) → (c ≡ 2 → ⊥) → c ≤ 2 → c ≡ 0
-zero_of zero a b d = refl
-zero_of (suc zero) a b d = absurd (a refl)
-zero_of (suc (suc zero)) a b d = absurd (b refl)
-zero_of (suc (suc (suc c))) a b d = absurd (omega arith)
+module _ {s : List ℕ} {r : Records} {name : List ℕ} {i : ℕ} (k : Standing s r name i) {a b : ℕ} {c : Ordering} (p : Part s a k.m b) (h : c ≡ slice_cmp nat_cmp (part s a b) name) where
+  order_is : slice_cmp nat_cmp k.m name ≡ c
+  order_is = sym (h ∙ ap (λ z. slice_cmp nat_cmp z name) (part_slice p))
 
-module _ {s : List ℕ} {r : Records} {name : List ℕ} {i : ℕ} (k : Standing s r name i) {a b c : ℕ} (p : Part s a k.m b) (h : c ≡ order_of (part s a b) name) where
-  order_is : order_of k.m name ≡ c
-  order_is = sym (h ∙ ap (λ z. order_of z name) (part_slice p))
-
-  pub place-below : c ≡ 2 → Placed s r name i i
+  pub place-below : c ≡ Greater → Placed s r name i i
   place-below e =
-      let l : less name k.m ≡ true = (order-less k.m name).1 ∙ ap (λ z. eqb z 2) (order_is ∙ e) in
+      let l : less name k.m ≡ true = (order-less k.m name).1 ∙ ap is_gt (order_is ∙ e) in
       record {
         on = omega arith;
         inside = omega (arith, k.part.ends);
@@ -135,10 +133,10 @@ module _ {s : List ℕ} {r : Records} {name : List ℕ} {i : ℕ} (k : Standing 
       }
 
   module _ {e : ℕ} (t : Part s e (encode k.q) (length s)) (o : i ≤ e) where
-    pub place_same : c ≡ 1 → Placed s r name i e
+    pub place_same : c ≡ Equal → Placed s r name i e
     place_same g =
-        let l : less name k.m ≡ false = (order-less k.m name).1 ∙ ap (λ z. eqb z 2) (order_is ∙ g) in
-        let m : less k.m name ≡ false = (order-less k.m name).0 ∙ ap (λ z. eqb z 0) (order_is ∙ g) in
+        let l : less name k.m ≡ false = (order-less k.m name).1 ∙ ap is_gt (order_is ∙ g) in
+        let m : less k.m name ≡ false = (order-less k.m name).0 ∙ ap is_lt (order_is ∙ g) in
         record {
           on = o;
           inside = omega (arith, t.ends);
@@ -157,11 +155,10 @@ module _ {s : List ℕ} {r : Records} {name : List ℕ} {i : ℕ} (k : Standing 
         let p₂ = (part-split s i (one k.m k.w) (encode k.q) (length s) whole).0 in
         sym (ap (λ z. take z s) ends) ∙ take-add i (length (one k.m k.w)) s ∙ ap (λ z. take i s ++ z) (rw p₂.bytes (take-append_seam (one k.m k.w) _))
 
-    pub place-on : (c ≡ 1 → ⊥) → (c ≡ 2 → ⊥) → Placing s r name e
-    place-on g₁ g₂ =
-        let z : c ≡ 0 = zero_of c g₁ g₂ (omega (arith, h, order-three (part s a b) name)) in
-        let l : less name k.m ≡ false = (order-less k.m name).1 ∙ ap (λ z. eqb z 2) (order_is ∙ z) in
-        let m : less k.m name ≡ true = (order-less k.m name).0 ∙ ap (λ z. eqb z 0) (order_is ∙ z) in
+    pub place-on : c ≡ Less → Placing s r name e
+    place-on z =
+        let l : less name k.m ≡ false = (order-less k.m name).1 ∙ ap is_gt (order_is ∙ z) in
+        let m : less k.m name ≡ true = (order-less k.m name).0 ∙ ap is_lt (order_is ∙ z) in
         record {
           left = k.q;
           part = t;

@@ -6,14 +6,9 @@ ghost use Rattle.sheet.specs.Order.{underscored_if};
 ghost use Rattle.places.specs.Place.{Placing, Placed};
 ghost use Rattle.places.specs.Mark.{Marked, HasMark};
 
+use scan::Range;
 use sheet::lookup::{item, order, skip};
-
-// Where a name is bound: in place of the bytes from a place to another.
-#[derive(Clone, Copy)]
-pub struct Place {
-    pub from: usize,
-    pub to: usize,
-}
+use std::cmp::Ordering;
 
 // Where the search for a name starts: at `last`, unless the record there comes behind the name.
 fn start(s: &[u8], last: usize, name: &[u8], reference: bool) -> usize
@@ -27,34 +22,27 @@ fn start(s: &[u8], last: usize, name: &[u8], reference: bool) -> usize
         return 0;
     }
     let o = item(s, last);
-    let from = o.from;
-    let to = o.to;
-    let behind = order(&s[from..to], name, reference) == 2;
+    let behind = order(&s[o.name.from..o.name.to], name, reference) == Ordering::Greater;
     if behind {
         return 0;
     }
     last
 }
 
-// Finds the place of a name among the records.
-pub fn find_place(s: &[u8], last: usize, name: &[u8], reference: bool) -> Place
+// Finds the part of the sheet that a name's record is to stand in place of.
+pub fn find_place(s: &[u8], last: usize, name: &[u8], reference: bool) -> Range
     requires { HasMark s.now last }
     ensures { (r : Records) → Marked s.now r last → Placed s.now r (underscored_if reference name.now) result.from result.to }
 {
     let mut i = start(s, last, name, reference);
     while i < s.len() {
         let o = item(s, i);
-        let from = o.from;
-        let to = o.to;
         let e = skip(s, o.next, o.count);
-        let c = order(&s[from..to], name, reference);
-        if c == 1 {
-            return Place { from: i, to: e };
+        match order(&s[o.name.from..o.name.to], name, reference) {
+            Ordering::Less => i = e,
+            Ordering::Equal => return Range { from: i, to: e },
+            Ordering::Greater => return Range { from: i, to: i },
         }
-        if c == 2 {
-            return Place { from: i, to: i };
-        }
-        i = e;
     }
-    Place { from: i, to: i }
+    Range { from: i, to: i }
 }

@@ -3,59 +3,60 @@ ghost use Rattle.std.specs.Prelude.{◌≡◌, ◌+◌, ◌^◌, ◌≤◌, ◌<
 ghost use Rattle.rules.specs.Sheet.{resolve};
 ghost use Rattle.sheet.specs.Find.{IsSheet};
 ghost use Rattle.buffers.specs.Put.{after, Writer, Put};
-ghost use Rattle.raw_arguments.specs.Args.{lang_text, Inside};
-ghost use Rattle.raw_arguments.specs.Lang.{LooksUp};
+ghost use Rattle.raw_arguments.specs.Args.{lang_text};
+ghost use Rattle.raw_arguments.specs.Lang.{text_of_lang};
 
 use crate::Lang;
 
-// A reference as the part of the sheet in which it is found.
-pub fn look_up(text: &[u8], sheet: &[u8], lang: Lang) -> Lang
-    requires { Inside sheet.now text.now lang × IsSheet sheet.now }
-    ensures { (s : IsSheet sheet.now) → LooksUp (resolve s.r) sheet.now text.now lang result }
+// A language whose reference is looked up: a literal, from behind its quote; a text that stands as it is.
+#[derive(Clone, Copy)]
+pub enum LangText<'a> {
+    Literal(&'a [u8]),
+    Plain(&'a [u8]),
+}
+
+// Looks a language up. Without one the text is empty.
+pub fn look_up<'a>(sheet: &'a [u8], lang: Option<Lang<'a>>) -> LangText<'a>
+    requires { IsSheet sheet.now }
+    ensures { (s : IsSheet sheet.now) → text_of_lang result ≡ lang_text (resolve s.r) lang.entry }
 {
-    match lang {
-        Lang::Literal { from } => Lang::Literal { from },
-        Lang::Reference { from, to } => {
-            let f = strings::find_text(sheet, &text[from..to]);
-            Lang::Found {
-                from: f.from,
-                to: f.to,
-            }
+    let Some(given) = lang else {
+        return LangText::Plain(&sheet[..0]);
+    };
+    match given {
+        Lang::Literal(text) => LangText::Literal(text),
+        Lang::Reference(run) => {
+            let found = strings::find_text(sheet, run);
+            LangText::Plain(&sheet[found.from..found.to])
         }
-        Lang::Found { from, to } => Lang::Found { from, to },
     }
 }
 
 // How long the text is, as far as the room goes.
-pub fn measure(text: &[u8], sheet: &[u8], lang: Lang, room: usize) -> usize
-    requires { Inside sheet.now text.now lang × (room + 1 < 2 ^ 64) × IsSheet sheet.now }
-    ensures { (s : IsSheet sheet.now) → result ≡ after room 0 (length (lang_text (resolve s.r) sheet.now text.now lang)) }
+pub fn measure(lang: LangText<'_>, room: usize) -> usize
+    requires { room + 1 < 2 ^ 64 }
+    ensures { result ≡ after room 0 (length (text_of_lang lang.entry)) }
 {
     match lang {
-        Lang::Literal { from } => {
-            let m = calls::measure::literal(&text[from..], room);
+        LangText::Literal(text) => {
+            let m = calls::measure::literal(text, room);
             let size = m.size;
             size.len
         }
-        Lang::Reference { from, to } => {
-            let f = strings::find_text(sheet, &text[from..to]);
-            buffers::after(room, 0, f.to - f.from)
-        }
-        Lang::Found { from, to } => buffers::after(room, 0, to - from),
+        LangText::Plain(text) => buffers::after(room, 0, text.len()),
     }
 }
 
 // Puts the text.
-pub fn put(text: &[u8], sheet: &[u8], lang: Lang, out: &mut [u8], room: usize, p: usize) -> usize
-    requires { Inside sheet.now text.now lang × Writer room p × (length out.old ≤ room) × IsSheet sheet.now }
-    ensures { (s : IsSheet sheet.now) → Put room out.old p (lang_text (resolve s.r) sheet.now text.now lang) out.new result }
+pub fn put(lang: LangText<'_>, out: &mut [u8], room: usize, p: usize) -> usize
+    requires { Writer room p × (length out.old ≤ room) }
+    ensures { Put room out.old p (text_of_lang lang.entry) out.new result }
 {
     match lang {
-        Lang::Literal { from } => {
-            let r = strings::literal(&text[from..], out, room, p);
+        LangText::Literal(text) => {
+            let r = strings::literal(text, out, room, p);
             r.next
         }
-        Lang::Reference { from, to } => strings::reference(sheet, &text[from..to], out, room, p),
-        Lang::Found { from, to } => buffers::put(out, room, p, &sheet[from..to]),
+        LangText::Plain(text) => buffers::put(out, room, p, text),
     }
 }

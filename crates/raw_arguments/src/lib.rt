@@ -1,110 +1,107 @@
 // The arguments of a raw call (document 01, section 5): its language, and whether it is a block.
 #![tactic(auto)]
 
-ghost use Rattle.std.specs.Prelude.{List, ℕ, ◌≤◌, length};
+ghost use Rattle.std.specs.Prelude.{◌≤◌, length};
 ghost use Rattle.rules.specs.Sheet.{Lookup};
 ghost use Rattle.raw_arguments.specs.Args.{IsLanguage, Sets, IsArguments};
 
+use refusal::Refusal;
+use scan::Set;
+
 pub mod language_text;
 
-// What `lang` takes: a literal, from behind its quote; a reference's run; a part of the sheet, in which a reference was found. Without an argument it
-// is an empty part.
+// What `lang` takes: a literal, from behind its quote; a reference's run.
 #[derive(Clone, Copy)]
-pub enum Lang {
-    Literal { from: usize },
-    Reference { from: usize, to: usize },
-    Found { from: usize, to: usize },
+pub enum Lang<'a> {
+    Literal(&'a [u8]),
+    Reference(&'a [u8]),
 }
 
 // What `lang` takes, and where reading goes on.
 #[derive(Clone, Copy)]
-pub struct LangRead {
-    pub lang: Lang,
+pub struct LangRead<'a> {
+    pub lang: Lang<'a>,
     pub at: usize,
 }
 
 // What `lang` takes: a literal at `"`, else a reference.
-fn language(text: &[u8], at: usize) -> LangRead
+fn language<'a>(text: &'a [u8], at: usize) -> LangRead<'a>
     requires { at ≤ length text.now }
-    ensures { (look : Lookup) (z : List ℕ) → IsLanguage look z text.now at result }
+    ensures { (look : Lookup) → IsLanguage look text.now at result }
 {
     if scan::at(text, at, b'"') {
-        let n = string_ends::literal_end(&text[at + 1..]);
+        let literal = &text[at + 1..];
         return LangRead {
-            lang: Lang::Literal { from: at + 1 },
-            at: at + 1 + n,
+            lang: Lang::Literal(literal),
+            at: at + 1 + string_ends::literal_end(literal),
         };
     }
-    let end = scan::span(text, at, scan::Set::Run);
+    let end = scan::span(text, at, Set::Run);
     LangRead {
-        lang: Lang::Reference { from: at, to: end },
+        lang: Lang::Reference(&text[at..end]),
         at: end,
     }
 }
 
 // What an argument sets, and where reading goes on: the language; block, on or off; nothing, under any other name.
 #[derive(Clone, Copy)]
-pub enum Setting {
-    Language { lang: Lang, next: usize },
+pub enum Setting<'a> {
+    Language { lang: Lang<'a>, next: usize },
     Block { on: bool, next: usize },
     Nothing { next: usize },
 }
 
 // The argument whose name begins at a place. The name may be empty.
-fn argument(text: &[u8], at: usize) -> Setting
+fn argument<'a>(text: &'a [u8], at: usize) -> Setting<'a>
     requires { at ≤ length text.now }
-    ensures { (look : Lookup) (z : List ℕ) → Sets look z text.now at result }
+    ensures { (look : Lookup) → Sets look text.now at result }
 {
-    let end = scan::span(text, at, scan::Set::Word);
-    let from = scan::span(text, end, scan::Set::ColonOrBlank);
+    let end = scan::span(text, at, Set::Word);
+    let from = scan::span(text, end, Set::ColonOrBlank);
     if scan::same(&text[at..end], b"lang") {
-        let l = language(text, from);
-        let lang = l.lang;
-        return Setting::Language { lang, next: l.at };
+        let read = language(text, from);
+        return Setting::Language {
+            lang: read.lang,
+            next: read.at,
+        };
     }
     if scan::same(&text[at..end], b"block") {
-        let to = scan::span(text, from, scan::Set::Letter);
-        let on = scan::same(&text[from..to], b"true");
-        return Setting::Block { on, next: to };
+        let next = scan::span(text, from, Set::Letter);
+        let on = scan::same(&text[from..next], b"true");
+        return Setting::Block { on, next };
     }
     Setting::Nothing { next: from }
 }
 
-// What the arguments come to: has a round stalled, that is, moved by nothing; where reading goes on; the language; is it a block?
+// What the arguments come to: the language, if one is given; is it a block; and where reading goes on.
 #[derive(Clone, Copy)]
-pub struct Args {
-    pub stalled: bool,
-    pub at: usize,
-    pub lang: Lang,
+pub struct Args<'a> {
+    pub lang: Option<Lang<'a>>,
     pub block: bool,
+    pub at: usize,
 }
 
-// Reads the arguments of a raw call from a place on. The rounds end from inside: at `)`, at the end, or at a stalled round. A
-// later argument replaces an earlier one.
-pub fn arguments(text: &[u8], at: usize) -> Args
+// Reads the arguments of a raw call from a place on, up to `)` or the end. A later argument replaces an earlier one. A round that moves by nothing is
+// refused.
+pub fn arguments<'a>(text: &'a [u8], at: usize) -> Result<Args<'a>, Refusal>
     requires { at ≤ length text.now }
-    ensures { (look : Lookup) (z : List ℕ) → IsArguments look z text.now at result }
+    ensures { (look : Lookup) → IsArguments look text.now at result }
 {
-    let mut i = at;
-    let mut lang = Lang::Found { from: 0, to: 0 };
+    let mut lang = None;
     let mut block = false;
-    let mut stalled = false;
+    let mut i = at;
     'rounds: loop {
-        let start = i;
-        // Over blanks and commas.
-        loop {
-            if !scan::sees(text, i, scan::Set::NotParen) {
-                break 'rounds;
-            }
-            if !scan::sees(text, i, scan::Set::CommaOrBlank) {
-                break;
-            }
-            i += 1;
+        let from = scan::span(text, i, Set::CommaOrBlank);
+        if !scan::sees(text, from, Set::NotParen) {
+            return Ok(Args {
+                lang,
+                block,
+                at: from,
+            });
         }
-        let setting = argument(text, i);
-        match setting {
+        match argument(text, from) {
             Setting::Language { lang: taken, next } => {
-                lang = taken;
+                lang = Some(taken);
                 i = next;
             }
             Setting::Block { on, next } => {
@@ -112,18 +109,11 @@ pub fn arguments(text: &[u8], at: usize) -> Args
                 i = next;
             }
             Setting::Nothing { next } => {
-                if next == start {
-                    stalled = true;
-                    break 'rounds;
+                if next == i {
+                    return Err(Refusal::Stalled);
                 }
                 i = next;
             }
         }
-    }
-    Args {
-        stalled,
-        at: i,
-        lang,
-        block,
     }
 }

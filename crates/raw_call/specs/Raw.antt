@@ -1,5 +1,5 @@
 -- What a raw call writes, and the ways through it.
-use Rattle.std.specs.Prelude.{◌≡◌, Bool, true, false, ℕ, ◌+◌, ◌-◌, ◌≤◌, ◌<◌, take, drop}
+use Rattle.std.specs.Prelude.{Result, Ok, Err, ◌≡◌, Bool, true, false, ℕ, ◌+◌, ◌-◌, ◌≤◌, ◌<◌, take, drop}
 use Rattle.std.proofs.Math.Path.{refl, ap}
 use Rattle.std.proofs.Common.{sym, ◌∙◌, arith}
 use mathlib.Core.List.{List, [], ◌++◌, append_assoc}
@@ -21,7 +21,8 @@ use Rattle.calls.specs.declared.measure.Measure.{Measure}
 use Rattle.calls.specs.Called.{Says, Calls}
 use Rattle.calls.specs.Measure.{Measures}
 use Rattle.raw_arguments.specs.declared.Args.{Args}
-use Rattle.raw_arguments.specs.Args.{lang_text, IsArguments}
+use Rattle.raw_arguments.specs.Args.{lang_text, Given as GivenArgs, IsArguments}
+use Rattle.refusal.specs.declared.Refusal.{Refusal}
 use Rattle.raw_content.specs.declared.Value.{Value}
 use Rattle.raw_content.specs.declared.CallContent.{CallContent}
 use Rattle.raw_content.specs.declared.CallContent.TheVariants.{Given, HandedBack, Refused as Bad}
@@ -129,16 +130,22 @@ module _ {room : ℕ} (v : View) (look : Lookup) {b z t : List ℕ} {at i : ℕ}
   unfolding raw raw_arguments as_content Says ◌>>=◌ ◌>>◌ ret
   raw-refused e = record { on = omega (arith, l.on, m.on); inside = m.inside; size = refl; says = rw (l.rest, m.says, e) refl }
 
-  module _ {w : Value} (e : c.content ≡ Given w) {g : Args} (a : IsArguments look z t c.at g) where
-    pub raw-stalled : g.stalled ≡ true → Calls room (raw v look (drop at t)) t at o p o (record { outcome = No 8; at = g.at })
-    unfolding raw raw_arguments raw_end as_content Says ◌>>=◌ ◌>>◌ ret
-    raw-stalled h = record { on = omega (arith, l.on, m.on, a.on); inside = a.inside; size = refl; says = rw (l.rest, m.says, e, a.stalls h) refl }
+  module _ {w : Value} (e : c.content ≡ Given w) {g : Result Args Refusal} (a : IsArguments look t c.at g) where
+    pub raw-stalled : {k : Refusal} → g ≡ Err k → Calls room (raw v look (drop at t)) t at o p o (record { outcome = No 8; at = c.at })
+    unfolding raw raw_arguments raw_end as_content IsArguments Says ◌>>=◌ ◌>>◌ ret
+    raw-stalled h = record { on = omega (arith, l.on, m.on); inside = m.inside; size = refl; says = let x = rw h at a in rw (l.rest, m.says, e, x.1) refl }
 
-    pub raw-output : g.stalled ≡ false → {y : Bool} {j : ℕ} → Sees (byte_is 41) t g.at y → Skips t g.at j → {x : List ℕ} {q : ℕ} → Fills room o p (raw_text (value_text look b z t w) (lang_text look z t g.lang) g.block) x q → Calls room (raw v look (drop at t)) t at o p x (record { outcome = Out y q; at = j })
-    unfolding raw raw_arguments raw_end as_content Says the ◌>>=◌ ◌>>◌ ret
-    raw-output h s k f = record {
-      on = omega (arith, l.on, m.on, a.on, k.on);
-      inside = k.inside;
-      size = f.size;
-      says = (raw_text (value_text look b z t w) (lang_text look z t g.lang) g.block, rw (l.rest, m.says, e, a.ends h, s.says, k.rest) refl, f);
-    }
+    pub raw-output : {r : Args} → g ≡ Ok r → {y : Bool} {j : ℕ} → Sees (byte_is 41) t r.at y → Skips t r.at j → {x : List ℕ} {q : ℕ} → Fills room o p (raw_text (value_text look b z t w) (lang_text look r.lang) r.block) x q → Calls room (raw v look (drop at t)) t at o p x (record { outcome = Out y q; at = j })
+    unfolding raw raw_arguments raw_end as_content IsArguments Says the ◌>>=◌ ◌>>◌ ret
+    raw-output {r} h s k f =
+        let x : GivenArgs look t c.at r = rw h at a in
+        record {
+          on = omega (arith, l.on, m.on, x.on, k.on);
+          inside = k.inside;
+          size = f.size;
+          says = (raw_text (value_text look b z t w) (lang_text look r.lang) r.block, rw (l.rest, m.says, e, x.ends, s.says, k.rest) refl, f);
+        }
+
+pub args_inside : (look : Lookup) (t : List ℕ) (i : ℕ) {g : Result Args Refusal} → IsArguments look t i g → {r : Args} → g ≡ Ok r → r.at ≤ length t
+unfolding IsArguments
+args_inside look t i a {r} h = let x : GivenArgs look t i r = rw h at a in x.inside

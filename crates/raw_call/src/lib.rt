@@ -12,7 +12,7 @@ ghost use Rattle.buffers.specs.Emits.{Fills};
 ghost use Rattle.buffers.specs.Put.{Writer};
 ghost use Rattle.bundle.specs.Find.{entries_of};
 ghost use Rattle.sheet.specs.Find.{IsSheet};
-ghost use Rattle.raw_arguments.specs.Args.{lang_text, Inside as LangInside};
+ghost use Rattle.raw_arguments.specs.Args.{lang_text};
 ghost use Rattle.raw_content.specs.Content.{value_text, Inside};
 ghost use Rattle.calls.specs.Called.{Calls};
 ghost use Rattle.raw_call.specs.Raw.{Holds};
@@ -76,22 +76,22 @@ fn put_block(
     sheet: &[u8],
     content: Value,
     size: Measure,
-    lang: Lang,
+    lang: Option<Lang<'_>>,
     out: &mut [u8],
     room: usize,
     p: usize,
 ) -> usize
-    requires { Holds room b.now sheet.now text.now content size × LangInside sheet.now text.now lang × Writer room p × (length out.old ≤ room) × IsSheet sheet.now }
-    ensures { (s : IsSheet sheet.now) → Fills room out.old p (raw_text (value_text (resolve s.r) b.now sheet.now text.now content) (lang_text (resolve s.r) sheet.now text.now lang) true) out.new result }
+    requires { Holds room b.now sheet.now text.now content size × Writer room p × (length out.old ≤ room) × IsSheet sheet.now }
+    ensures { (s : IsSheet sheet.now) → Fills room out.old p (raw_text (value_text (resolve s.r) b.now sheet.now text.now content) (lang_text (resolve s.r) lang.entry) true) out.new result }
 {
-    let found = language_text::look_up(text, sheet, lang);
-    let n = language_text::measure(text, sheet, found, room);
+    let found = language_text::look_up(sheet, lang);
+    let n = language_text::measure(found, room);
     let end = after(room, after(room, after(room, p, 9), n), size.kept);
     if room < end {
         return end;
     }
     let i = buffers::put(out, room, p, b"```");
-    let j = language_text::put(text, sheet, found, out, room, i);
+    let j = language_text::put(found, out, room, i);
     let k = buffers::put_byte(out, room, j, b'\n');
     let l = after(room, k, size.kept);
     let m = put_first(b, text, sheet, content, out, room, k, l);
@@ -105,14 +105,14 @@ fn put_raw(
     sheet: &[u8],
     content: Value,
     size: Measure,
-    lang: Lang,
+    lang: Option<Lang<'_>>,
     block: bool,
     out: &mut [u8],
     room: usize,
     p: usize,
 ) -> usize
-    requires { Holds room b.now sheet.now text.now content size × LangInside sheet.now text.now lang × Writer room p × (length out.old ≤ room) × IsSheet sheet.now }
-    ensures { (s : IsSheet sheet.now) → Fills room out.old p (raw_text (value_text (resolve s.r) b.now sheet.now text.now content) (lang_text (resolve s.r) sheet.now text.now lang) block) out.new result }
+    requires { Holds room b.now sheet.now text.now content size × Writer room p × (length out.old ≤ room) × IsSheet sheet.now }
+    ensures { (s : IsSheet sheet.now) → Fills room out.old p (raw_text (value_text (resolve s.r) b.now sheet.now text.now content) (lang_text (resolve s.r) lang.entry) block) out.new result }
 {
     if block {
         return put_block(b, text, sheet, content, size, lang, out, room, p);
@@ -147,18 +147,17 @@ pub fn raw(
             at: c.at,
         },
         CallContent::Given(value) => {
-            let g = arguments(text, c.at);
-            if g.stalled {
+            let Ok(args) = arguments(text, c.at) else {
                 return Called {
                     outcome: Outcome::Refused { number: 8 },
-                    at: g.at,
+                    at: c.at,
                 };
-            }
-            let end = g.at;
-            let lang = g.lang;
-            let whole = scan::at(text, end, b')');
-            let next = scan::skip(text, end);
-            let q = put_raw(b, text, sheet, value, size, lang, g.block, out, room, p);
+            };
+            let whole = scan::at(text, args.at, b')');
+            let next = scan::skip(text, args.at);
+            let q = put_raw(
+                b, text, sheet, value, size, args.lang, args.block, out, room, p,
+            );
             Called {
                 outcome: Outcome::Output {
                     whole: whole,

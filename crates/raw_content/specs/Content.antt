@@ -1,11 +1,11 @@
 -- A raw call's content.
-use Rattle.std.specs.Prelude.{◌≡◌, List, [], ◌∷◌, Bool, true, false, ℕ, suc, ◌+◌, ◌-◌, ◌≤◌, ◌<◌, eqb, length, take, drop}
+use Rattle.std.specs.Prelude.{Result, Ok, Err, ◌≡◌, List, [], ◌∷◌, Bool, true, false, ℕ, suc, ◌+◌, ◌-◌, ◌≤◌, ◌<◌, eqb, length, take, drop}
 use Rattle.std.proofs.Math.Path.{refl}
 use Rattle.std.proofs.Common.{sym, ap, ◌∙◌, true≢false, arith, eq-eqb, ne_eqb, eqb-true}
 use Rattle.std.proofs.Math.ListN.{length-drop}
 use Rattle.std.proofs.Math.Seq.{drop-drop}
-use Rattle.std.proofs.lemmas.Bool.{lt-leb, eqb-false}
-use Rattle.rules.specs.Answer.{Answer}
+use Rattle.std.proofs.lemmas.Bool.{eqb-false}
+use Rattle.rules.specs.Answer.{Answer, refused}
 use Rattle.rules.specs.Reader.{bytes, but, prefix, sees, mark, ret, if_r, ◌>>=◌, ◌>>◌}
 use Rattle.rules.specs.Bytes.{blank, run_byte, underscored}
 use Rattle.rules.specs.Sheet.{Lookup, text_of}
@@ -15,13 +15,15 @@ use Rattle.rules.specs.Expansion.{Content, handed_back, no_content, given, raw_c
 use Rattle.scan.specs.Sets.{part, Spans, Skips, Sees, Starts, byte_is}
 use Rattle.scan.specs.Laws.{sees-the, skips-at, mark_of, mark-yes, mark-no}
 use Rattle.scan.specs.Laws.{drop-take, tail-part}
-use Rattle.bundle.specs.Open.{Opens, answer_of, stop, long-opened}
+use Rattle.bundle.specs.Open.{Opens, long-opened}
 use Rattle.buffers.specs.Put.{Put}
 use Rattle.sheet.specs.Find.{Places}
 use Rattle.strings.specs.Read.{Wrote}
 use Rattle.strings.specs.Paths.{PathIn}
-use Rattle.bundle.specs.declared.Opened.{Opened}
-use Rattle.bundle.specs.declared.Opened.TheVariants.{Refused, Text}
+use Rattle.scan.specs.declared.Range.{Range}
+use Rattle.bundle_entries.specs.Entries.{Within}
+use Rattle.refusal.specs.Numbers.{number}
+use Rattle.refusal.specs.declared.Refusal.{Refusal}
 use Rattle.calls.specs.declared.measure.Measure.{Measure}
 use Rattle.calls.specs.declared.measure.Measured.{Measured}
 use Rattle.calls.specs.Measure.{Measures, MeasuresRead}
@@ -66,10 +68,15 @@ pub record Contents (room : ℕ) (c : Content × List ℕ) (look : Lookup) (b z 
 abbrev pub without_text : CallContent → ℕ → ContentRead
 without_text c j = record { content = c; size = record { len = 0; kept = 0 }; at = j }
 
+-- What was opened lies in the bundle.
+abbrev pub InBundle : List ℕ → Result Range Refusal → Type 0
+InBundle b (Ok r) = Within b r
+InBundle b (Err e) = Unit {0}
+
 -- What was opened, as a content; reading goes on at j.
-unfoldable pub FileIs : ℕ → List ℕ → ℕ → Opened → ContentRead → Type 0
-FileIs room b j (Refused k) r = (r.at ≡ j) × (r.content ≡ Bad k)
-FileIs room b j (Text s n) r = (r.at ≡ j) × (r.content ≡ Given (File s (s + n))) × Measures room (part b s (s + n)) r.size
+abbrev pub FileIs : ℕ → List ℕ → ℕ → Result Range Refusal → ContentRead → Type 0
+FileIs room b j (Err e) r = (r.at ≡ j) × (r.content ≡ Bad (number e))
+FileIs room b j (Ok f) r = (r.at ≡ j) × (r.content ≡ Given (File f.from f.to)) × Measures room (part b f.from f.to) r.size
 
 -- THE PATH OF A FILE. One leading `/`.
 slash-at : (x : ℕ) (xs : List ℕ) (c : Bool) → eqb 47 x ≡ c → without_slash (x ∷ xs) ≡ elim c [ true ↦ xs | false ↦ x ∷ xs ]
@@ -96,31 +103,24 @@ slash-length (x ∷ xs) = at (eqb 47 x) refl
     at false e = omega (arith, ap length (slash-at x xs false e))
 
 module _ (b : List ℕ) (v : View) {p path : List ℕ} {n : ℕ} (k : PathIn p path n) where
-  pub path-long : 256 < n → Opens b (opened v (without_slash p)) (Refused 4)
-  path-long h = long-opened b v (without_slash p) (lt-leb (length (without_slash p)) 255 (omega (arith, k.long h, slash-length p)))
+  pub path-long : 256 < n → opened v (without_slash p) ≡ refused 4
+  path-long h = long-opened v (without_slash p) (omega (arith, k.long h, slash-length p))
 
   module _ (h : n ≤ 256) {c : Bool} (s : Sees (byte_is 47) (take n path) 0 c) where
-    pub path-slash : c ≡ true → {r : Opened} → Opens b (opened v (take (n - 1) (drop 1 path))) r → Opens b (opened v (without_slash p)) r
-    path-slash e o = rw (sym (drop-take 1 n path) ∙ ap (drop 1) (k.fits h) ∙ sym (slash-yes p (rw (k.fits h, e) at s.says))) at o
+    pub path-slash : c ≡ true → (r : Result Range Refusal) → Opens b (opened v (take (n - 1) (drop 1 path))) r → Opens b (opened v (without_slash p)) r
+    path-slash e r o = rw (sym (drop-take 1 n path) ∙ ap (drop 1) (k.fits h) ∙ sym (slash-yes p (rw (k.fits h, e) at s.says))) at o
 
-    pub path-plain : c ≡ false → {r : Opened} → Opens b (opened v (take n path)) r → Opens b (opened v (without_slash p)) r
-    path-plain e o = rw (k.fits h ∙ sym (slash-no p (rw (k.fits h, e) at s.says))) at o
+    pub path-plain : c ≡ false → (r : Result Range Refusal) → Opens b (opened v (take n path)) r → Opens b (opened v (without_slash p)) r
+    path-plain e r o = rw (k.fits h ∙ sym (slash-no p (rw (k.fits h, e) at s.says))) at o
 
-pub file-refused : (room : ℕ) (b : List ℕ) {f : Opened} {k j : ℕ} {r : ContentRead} → f ≡ Refused k → r ≡ without_text (Bad k) j → FileIs room b j f r
-unfolding FileIs
-file-refused room b e h = rw (e, h) (refl, refl)
+pub in-bundle : (b : List ℕ) (a : Answer (List ℕ)) (f : Result Range Refusal) → Opens b a f → InBundle b f
+in-bundle b a (Ok r) o = o.within
+in-bundle b a (Err e) o = tt
 
-pub file-text : {room : ℕ} (b : List ℕ) (j : ℕ) {f : Opened} {s n : ℕ} {m : Measure} → f ≡ Text s n → Measures room (part b s (s + n)) m → FileIs room b j f (record { content = Given (File s (s + n)); size = m; at = j })
-unfolding FileIs
-file-text b j e h = rw e (refl, refl, h)
-
-pub file-stop : {f : Opened} {s n k : ℕ} → f ≡ Text s n → stop f ≤ k → s + n ≤ k
-file-stop e h = rw e at h
-
-content-says : (room : ℕ) (look : Lookup) (b z t : List ℕ) {a : Answer (List ℕ)} (j : ℕ) (f : Opened) (r : ContentRead) → Opens b a f → FileIs room b j f r → (r.at ≡ j) × (raw_content a ≡ as_content look b z t r.content) × Sized room look b z t r.content r.size
-unfolding FileIs raw_content as_content Sized value_text Inside answer_of
-content-says room look b z t j (Refused k) r o h = (h.0, rw (h.1, o.says) refl, rw h.1 tt)
-content-says room look b z t j (Text s n) r o h = let y : s + n - s ≡ n = omega arith in (h.0, rw (h.1, o.says) (rw y refl), rw h.1 ((omega arith, o.inside), h.2))
+content-says : (room : ℕ) (look : Lookup) (b z t : List ℕ) (a : Answer (List ℕ)) (j : ℕ) (f : Result Range Refusal) (r : ContentRead) → Opens b a f → FileIs room b j f r → (r.at ≡ j) × (raw_content a ≡ as_content look b z t r.content) × Sized room look b z t r.content r.size
+unfolding raw_content as_content Sized value_text Inside
+content-says room look b z t a j (Err e) r o h = (h.0, rw (h.1, o) refl, rw h.1 tt)
+content-says room look b z t a j (Ok f) r o h = (h.0, rw (h.1, o.says) refl, rw h.1 ((o.within.order, o.within.inside), h.2))
 
 -- `read`, by what the scans gave.
 module _ (room : ℕ) (v : View) (look : Lookup) {b z t : List ℕ} {at i : ℕ} (l : Spans blank t at i) {c : Bool} (q : Sees (byte_is 40) t i c) where
@@ -129,10 +129,10 @@ module _ (room : ℕ) (v : View) (look : Lookup) {b z t : List ℕ} {at i : ℕ}
   read_back e h = rw h (record { on = l.on; inside = l.inside; sized = tt; says = rw (l.rest, (sees-the "(" q e).says) refl })
 
   pub read-file : c ≡ true → {o path : List ℕ} {k n : ℕ} → Wrote 256 (expression look (take (length t - (i + 1)) (drop (i + 1) t))) (take (length t - (i + 1)) (drop (i + 1) t)) o 0 path k n →
-      {j m : ℕ} → Spans (but ")") t (i + 1 + k) j → Skips t j m → (f : Opened) {r : ContentRead} → Opens b (opened v (without_slash (expression look (take (length t - (i + 1)) (drop (i + 1) t))).0)) f → FileIs room b m f r →
+      {j m : ℕ} → Spans (but ")") t (i + 1 + k) j → Skips t j m → (f : Result Range Refusal) {r : ContentRead} → Opens b (opened v (without_slash (expression look (take (length t - (i + 1)) (drop (i + 1) t))).0)) f → FileIs room b m f r →
       Contents room (read_call v look (drop at t)) look b z t at r
   read-file e {o} {path} {k} {n} w {j} {m} x y f {r} p h =
-      let g = content-says room look b z t m f r p h in
+      let g = content-says room look b z t _ m f r p h in
       record {
         on = omega (arith, l.on, x.on, y.on, g.0);
         inside = omega (arith, y.inside, g.0);

@@ -9,13 +9,14 @@ ghost use Rattle.rules.specs.Expansion.{without_slash, read_call, content};
 ghost use Rattle.rules.specs.Answer.{is_some};
 ghost use Rattle.buffers.specs.Put.{Writer, Put};
 ghost use Rattle.bundle.specs.Find.{entries_of};
-ghost use Rattle.bundle.specs.Open.{Opens, stop};
+ghost use Rattle.bundle.specs.Open.{Opens};
 ghost use Rattle.sheet.specs.Find.{IsSheet};
 ghost use Rattle.strings.specs.Paths.{PathIn};
-ghost use Rattle.raw_content.specs.Content.{value_text, Inside, without_text, FileIs, Contents};
+ghost use Rattle.raw_content.specs.Content.{value_text, Inside, InBundle, without_text, FileIs, Contents};
 
-use bundle::Opened;
 use calls::measure::Measure;
+use paths::Range;
+use refusal::Refusal;
 use scan::Set;
 
 // Where a content stands: an expression, in the text; what a reference found, in the sheet; a file, in the bundle.
@@ -54,12 +55,12 @@ fn no_content(content: CallContent, at: usize) -> ContentRead
 }
 
 // Opens the file of a `read`, whose path is the first n bytes; one leading `/` is dropped. 4, 5, 6.
-fn open_path(b: &[u8], path: [u8; 256], n: usize) -> Opened
+fn open_path(b: &[u8], path: [u8; 256], n: usize) -> Result<Range, Refusal>
     requires { (is_some (bundle_of b.now) ≡ true) × (length path ≡ 256) }
     ensures { (p : List ℕ) → PathIn p path n → Opens b.now (opened (view (entries_of b.now)) (without_slash p)) result }
 {
     if 256 < n {
-        return Opened::Refused(4);
+        return Err(Refusal::Path);
     }
     if scan::at(&path[..n], 0, b'/') {
         return bundle::open_text(b, &path[1..n]);
@@ -68,19 +69,18 @@ fn open_path(b: &[u8], path: [u8; 256], n: usize) -> Opened
 }
 
 // What was opened, as a content.
-fn file_content(b: &[u8], f: Opened, at: usize, room: usize) -> ContentRead
-    requires { (stop f ≤ length b.now) × (room + 1 < 2 ^ 64) }
-    ensures { FileIs room b.now at f result }
+fn file_content(b: &[u8], opened: Result<Range, Refusal>, at: usize, room: usize) -> ContentRead
+    requires { InBundle b.now opened × (room + 1 < 2 ^ 64) }
+    ensures { FileIs room b.now at opened result }
 {
-    match f {
-        Opened::Refused(k) => no_content(CallContent::Refused(k), at),
-        Opened::Text { start, len } => {
-            let end = start + len;
-            let size = calls::measure::part(&b[start..end], room);
+    match opened {
+        Err(refusal) => no_content(CallContent::Refused(u8::from(refusal)), at),
+        Ok(text) => {
+            let size = calls::measure::part(&b[text.from..text.to], room);
             ContentRead {
                 content: CallContent::Given(Value::File {
-                    from: start,
-                    to: end,
+                    from: text.from,
+                    to: text.to,
                 }),
                 size,
                 at,

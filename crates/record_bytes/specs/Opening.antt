@@ -3,6 +3,7 @@ use Rattle.std.specs.Prelude.{◌≡◌, Bool, true, false, cond, ◌||◌, ℕ,
 use Rattle.std.proofs.Math.Path.{refl, ap}
 use Rattle.std.proofs.Common.{sym, ◌∙◌, add-one, arith, length-append, drop_of_length-le, drop-cons, eq-eqb, ne_eqb}
 use mathlib.Core.List.{List, [], ◌∷◌, ◌++◌, append-nil}
+use Rattle.std.specs.Int.{w16, to_le_bytes}
 use Rattle.std.specs.Int.Bits.{bit_and, bit_or}
 use Rattle.std.proofs.Math.ListN.{length}
 use Rattle.std.proofs.Math.Seq.{sets}
@@ -116,6 +117,11 @@ module _ {bit : ℕ} (b : IsBit bit) where
     open_numbered e = rw (is-numbered e) (omega arith)
 
 -- WRITING.
+-- The bytes of a 16-bit number, low byte first.
+pub low_first : (k : ℕ) → k ≤ 65535 → to_le_bytes w16 k ≡ word16_bytes k
+unfolding word16_bytes
+low_first k h = let e : k / 256 % 256 ≡ k / 256 = omega arith in rw e refl
+
 -- One byte more of a name.
 pub name-step : (b : List ℕ) (at i : ℕ) (f : Bool) (t : List ℕ) {x : ℕ} → i < length t → x ≡ underscore_if f (get_or t i 0) → sets (put b (at + i) x) (at + (i + 1)) (drop (i + 1) (underscored_if f t)) ≡ sets b (at + i) (drop i (underscored_if f t))
 name-step b at i f t h e =

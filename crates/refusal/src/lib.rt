@@ -1,7 +1,7 @@
 // The refusals (document 01, section 8), each with its number.
 #![tactic(auto)]
 
-ghost use Rattle.std.specs.Prelude.{◌≡◌};
+ghost use Rattle.std.specs.Prelude.{◌≡◌, ◌≤◌, MatchResult};
 ghost use Rattle.refusal.specs.Numbers.{number};
 
 // Why a call is refused.
@@ -47,6 +47,30 @@ impl From<Refusal> for u8 {
             Refusal::Limit => 9,
             Refusal::Middle => 10,
             Refusal::Output => 11,
+        }
+    }
+}
+
+impl Refusal {
+    // A call's number as a result: 0 where it is accepted, else its refusal.
+    pub fn check(n: u8) -> Result<(), Refusal>
+        requires { n ≤ 11 }
+        ensures { MatchResult result (λ _. n ≡ 0) (λ refusal. n ≡ number refusal) }
+    {
+        match n {
+            0 => Ok(()),
+            1 => Err(Refusal::Work),
+            2 => Err(Refusal::Bundle),
+            3 => Err(Refusal::Sheet),
+            4 => Err(Refusal::Path),
+            5 => Err(Refusal::File),
+            6 => Err(Refusal::Byte),
+            7 => Err(Refusal::Level),
+            8 => Err(Refusal::Stalled),
+            9 => Err(Refusal::Limit),
+            10 => Err(Refusal::Middle),
+            11 => Err(Refusal::Output),
+            _ => unreachable!(),
         }
     }
 }

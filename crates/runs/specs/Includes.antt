@@ -16,8 +16,7 @@ use Rattle.rules.specs.Pass.{middle_text}
 use Rattle.rules.specs.Calls.{padded, output_answer, resolve_includes_result, resolve_includes_of}
 use Rattle.bundle.specs.Find.{entries_of}
 use Rattle.rules.proofs.Laws.Limit.{limited-text}
-use Rattle.buffers.specs.Emits.{limited-guarded, guarded-emitted}
-use Rattle.includes.specs.Resolve.{Resolves}
+use Rattle.buffers.specs.Emits.{Emits, limited-guarded, guarded-emitted}
 use Rattle.arguments.specs.Given.{given, given-then, GoodArguments, good-given, Judges}
 use Rattle.runs.specs.declared.Outcome.{Outcome}
 use Rattle.runs.specs.Outcome.{refused_outcome, written-first}
@@ -30,7 +29,7 @@ pub record Middle (v : View) (full n : ℕ) (g t c : List ℕ) (q : ℕ) (w : Bo
   pub fits : q ≤ n
   pub wholes : all_whole (includes v g t) ≡ w
 
-module _ (v : View) (g t : List ℕ) {full : ℕ} {o c : List ℕ} {y : Bool} {k q : ℕ} {w : Bool} (r : Resolves full (length o) (run (include_step v (inside_file v 6) g) [] 0 t) o 0 c y k q w) where
+module _ (v : View) (g t : List ℕ) {full : ℕ} {o c : List ℕ} {y : Bool} {k q : ℕ} (r : Emits full (length o) (emitted (run (include_step v (inside_file v 6) g) [] 0 t)) o 0 c y k q) where
   abbrev Later : Answer (List ℕ) → Answer (List ℕ × List ℕ)
   Later a = ◌>>=◌ {B = List ℕ × List ℕ} a (λ o. accepted (o, final (includes v g t)))
 
@@ -40,12 +39,12 @@ module _ (v : View) (g t : List ℕ) {full : ℕ} {o c : List ℕ} {y : Bool} {k
 
   pub middle-stops : y ≡ false → middle_text v full (length o) g t ≡ refused k
   unfolding includes ◌>>=◌
-  middle-stops e = in_writing ∙ ap Later (rw sub-zero at (r.emits.stops e))
+  middle-stops e = in_writing ∙ ap Later (rw sub-zero at (r.stops e))
 
-  pub middle-goes : y ≡ true → Middle v full (length o) g t c q w
+  pub middle-goes : y ≡ true → {w : Bool} → all_whole (run (include_step v (inside_file v 6) g) [] 0 t) ≡ w → Middle v full (length o) g t c q w
   unfolding includes middle_text ◌>>=◌
-  middle-goes e =
-      let s = r.emits.goes e in
+  middle-goes e h =
+      let s = r.goes e in
       let f = written-first s refl in
       let u = in_writing ∙ ap Later (rw sub-zero at s.says) ∙ ap (λ x. accepted (x, final (includes v g t))) (sym f.1) in
       record {
@@ -53,7 +52,7 @@ module _ (v : View) (g t : List ℕ) {full : ℕ} {o c : List ℕ} {y : Bool} {k
         is = ap (λ x. x.0) (limited-text (λ h. 0) 0 full (includes v g t) (length o) u);
         long = f.0 ∙ ap length (sym f.1);
         fits = s.fits;
-        wholes = r.wholes e;
+        wholes = h;
       }
 
 -- THE CALL, before its buffer is cleared: the text stands at its start.
@@ -84,20 +83,20 @@ module _ (b g t : List ℕ) (n : ℕ) where
   in-reading f = as_given ∙ ap (λ x. x >>= Then) (good-given f)
 
 module _ (b g t : List ℕ) (f : GoodArguments b g t [] 0)
-    {o c : List ℕ} {y : Bool} {k m : ℕ} {w : Bool} (R : Resolves 11 (length o) (run (include_step (view (entries_of b)) (inside_file (view (entries_of b)) 6) g) [] 0 t) o 0 c y k m w) where
+    {o c : List ℕ} {y : Bool} {k m : ℕ} (R : Emits 11 (length o) (emitted (run (include_step (view (entries_of b)) (inside_file (view (entries_of b)) 6) g) [] 0 t)) o 0 c y k m) where
   abbrev First : Answer (List ℕ × List ℕ) → Answer (List ℕ)
   First a = a >>= λ y. accepted y.0
 
   pub text-stopped : y ≡ false → {r : Outcome} → r ≡ refused_outcome k → ResolvesText b g t o c r
   unfolding ◌>>=◌
-  text-stopped e h = text-refused h R.emits.size (in-reading b g t (length o) f ∙ ap First (middle-stops (view (entries_of b)) g t R e))
+  text-stopped e h = text-refused h R.size (in-reading b g t (length o) f ∙ ap First (middle-stops (view (entries_of b)) g t R e))
 
   pub text-done : y ≡ true → ResolvesText b g t o c (record { number = 0; len = m; sheet = 0; closed = false })
   unfolding resolve_includes_of output_answer ◌>>=◌
   text-done e =
-      let s = middle-goes (view (entries_of b)) g t R e in
+      let s = middle-goes (view (entries_of b)) g t R e refl in
       record {
-        size = R.emits.size;
+        size = R.size;
         fits = s.fits;
         is = ap (output_answer (length o)) (in-reading b g t (length o) f ∙ ap First s.says) ∙ λ i. record { number = 0; len = sym s.long i; out = padded (length o) (take m c) };
       }

@@ -6,7 +6,7 @@ use Rattle.std.proofs.Math.Nat.{sub-zero}
 use Rattle.std.proofs.lemmas.List.Edits.{sets}
 use Rattle.rules.specs.Answer.{Answer, refused, ◌>>=◌}
 use Rattle.rules.specs.Reader.{all}
-use Rattle.rules.specs.Run.{run, ends_in_newline, all_whole}
+use Rattle.rules.specs.Run.{run, emitted, ends_in_newline, all_whole}
 use Rattle.rules.specs.Bytes.{ascii}
 use Rattle.rules.specs.Bundle.{Entry, bundle_of}
 use Rattle.rules.specs.Files.{view}
@@ -18,7 +18,7 @@ use Rattle.rules.specs.Calls.{Setting, limit, zeros, padded, passed_answer, clos
 use Rattle.rules.proofs.Laws.Bool.{true-some}
 use Rattle.rules.proofs.Laws.Middle.{middle-plain}
 use Rattle.bundle.specs.Find.{entries_of, entries-some}
-use Rattle.includes.specs.Resolve.{Resolves}
+use Rattle.buffers.specs.Emits.{Emits}
 use Rattle.scan.specs.Laws.{ends_last}
 use Rattle.expansion.specs.declared.Expanded.{Expanded as Ran}
 use Rattle.binding.specs.Use.{Keeps}
@@ -85,21 +85,21 @@ module _ (b g t z : List ℕ) (m n l : ℕ) where
       rw (x.1, f.sheets.of, f.folders, f.texts, entries-some b x.0 x.1) refl
 
 -- THE RUNS: the includes, and the expansion of what they wrote.
-module _ {b g t z l₀ : List ℕ} {L : ℕ} (B : Begins b g t z l₀ L) {m c : List ℕ} {y : Bool} {k q : ℕ} {w : Bool}
-    (R : Resolves 10 (length m) (run (include_step (view (entries_of b)) (inside_file (view (entries_of b)) 6) g) [] 0 t) m 0 c y k q w) where
+module _ {b g t z l₀ : List ℕ} {L : ℕ} (B : Begins b g t z l₀ L) {m c : List ℕ} {y : Bool} {k q : ℕ}
+    (R : Emits 10 (length m) (emitted (run (include_step (view (entries_of b)) (inside_file (view (entries_of b)) 6) g) [] 0 t)) m 0 c y k q) where
   abbrev Expansion : ℕ → Answer (List ℕ × List ℕ) → Answer (List ℕ × Records)
   Expansion n a = a >>= λ x. expanded (view (entries_of b)) (limit (length l₀)) n B.good.sheets.r x.0
 
   pub run-stopped : y ≡ false → {o : List ℕ} {p : Outcome} → p ≡ refused_outcome k → Passes b g t z m c o o l₀ l₀ p
   unfolding passed ◌>>=◌
-  run-stopped e {o} h = passes-refused h R.emits.size refl refl (in-reading b g t z (length m) (length o) (length l₀) B.good ∙ ap (Expansion (length o)) (middle-stops (view (entries_of b)) g t R e))
+  run-stopped e {o} h = passes-refused h R.size refl refl (in-reading b g t z (length m) (length o) (length l₀) B.good ∙ ap (Expansion (length o)) (middle-stops (view (entries_of b)) g t R e))
 
-  module _ (e : y ≡ true) where
+  module _ (e : y ≡ true) {w : Bool} (h : all_whole (run (include_step (view (entries_of b)) (inside_file (view (entries_of b)) 6) g) [] 0 t) ≡ w) where
     M : Middle (view (entries_of b)) 10 (length m) g t c q w
-    M = middle-goes (view (entries_of b)) g t R e
+    M = middle-goes (view (entries_of b)) g t R e h
 
     pub run_inside : q ≤ length c
-    run_inside = omega (arith, M.fits, R.emits.size)
+    run_inside = omega (arith, M.fits, R.size)
 
     pub run-ascii : all ascii (take q c) ≡ true
     run-ascii = rw M.is (middle-plain (view (entries_of b)) g t B.good.texts)
@@ -120,19 +120,19 @@ module _ {b g t z l₀ : List ℕ} {L : ℕ} (B : Begins b g t z l₀ L) {m c : 
         left-same = left-length l₀ B.good.sheets B.good.fits F
 
         pub run-refused : r.ok ≡ false → {p : Outcome} → p ≡ refused_outcome r.number → Passes b g t z m c o o₂ l₀ l₂ p
-        run-refused x h = passes-refused h R.emits.size E.size left-same (then-expanded ∙ expanded-stops l₀ B.good.sheets B.good.fits F x)
+        run-refused x u = passes-refused u R.size E.size left-same (then-expanded ∙ expanded-stops l₀ B.good.sheets B.good.fits F x)
 
         pub run-done : r.ok ≡ true → {n : Bool} → n ≡ ends_in_newline t → Passes b g t z m c o o₂ l₀ l₂ (record { number = 0; len = r.next; sheet = r.len; closed = n && w && r.whole })
         unfolding pass_of passed_answer closed
-        run-done x {n} h =
+        run-done x {n} u =
             let v = view (entries_of b) in
             let s = B.good.sheets.r in
             let W = expanded-goes l₀ B.good.sheets B.good.fits F x in
             let k = setting_of b g (length m) (length o) (length l₀) in
             let a : closed_of k z t ≡ (n && w && r.whole) =
-            closed-good b g t z (length m) (length o) (length l₀) B.good ∙ (λ i. sym h i && M.wholes i && all_whole (expansion v s (sym M.is i))) ∙ ap (λ j. n && w && j) W.wholes in
+            closed-good b g t z (length m) (length o) (length l₀) B.good ∙ (λ i. sym u i && M.wholes i && all_whole (expansion v s (sym M.is i))) ∙ ap (λ j. n && w && j) W.wholes in
             record {
-              middle-size = R.emits.size;
+              middle-size = R.size;
               out-size = E.size;
               left-size = left-same;
               fits = W.fits;

@@ -3,6 +3,8 @@ ghost use Rattle.runs.specs.Includes.{ResolvesText};
 
 use crate::{Outcome, refused};
 use arguments::refusal;
+use buffers::writer::Writer;
+use refusal::Refusal;
 
 // A text with its includes resolved: 2, 4, 6, then in reading 11, 4, 5, 7, 6.
 pub fn resolve_includes(bundle: &[u8], folder: &[u8], text: &[u8], out: &mut [u8]) -> Outcome
@@ -12,15 +14,19 @@ pub fn resolve_includes(bundle: &[u8], folder: &[u8], text: &[u8], out: &mut [u8
     if number != 0 {
         return refused(number);
     }
-    let room = out.len();
-    let r = includes::resolve(bundle, folder, text, out, room, 0, 11, 6);
-    if !r.ok {
-        return refused(r.number);
-    }
-    Outcome {
-        number: 0,
-        len: r.next,
-        sheet: 0,
-        closed: false,
+    let mut w = Writer {
+        room: out.len(),
+        out,
+        at: 0,
+        full: Refusal::Output,
+    };
+    match includes::resolve(bundle, folder, text, &mut w, 6) {
+        Err(refusal) => refused(u8::from(refusal)),
+        Ok(_) => Outcome {
+            number: 0,
+            len: w.at,
+            sheet: 0,
+            closed: false,
+        },
     }
 }

@@ -5,6 +5,8 @@ ghost use Rattle.runs.specs.Pass.{Begins, Passes};
 
 use crate::{Outcome, refused};
 use arguments::{refusal, sheet_limit};
+use buffers::writer::Writer;
+use refusal::Refusal;
 
 // Is a text empty, or is its last byte a newline?
 fn ends_in_newline(text: &[u8]) -> bool
@@ -31,13 +33,18 @@ fn run(
     requires { Begins bundle.now folder.now text.now sheet.now left.old limit }
     ensures { Passes bundle.now folder.now text.now sheet.now middle.old middle.new out.old out.new left.old left.new result }
 {
-    let room = middle.len();
-    let m = includes::resolve(bundle, folder, text, middle, room, 0, 10, 6);
-    if !m.ok {
-        return refused(m.number);
-    }
+    let mut w = Writer {
+        room: middle.len(),
+        out: middle,
+        at: 0,
+        full: Refusal::Middle,
+    };
+    let whole = match includes::resolve(bundle, folder, text, &mut w, 6) {
+        Err(refusal) => return refused(u8::from(refusal)),
+        Ok(whole) => whole,
+    };
+    let end = w.at;
     buffers::store(left, 0, sheet);
-    let end = m.next;
     let space = out.len();
     let e = expansion::expand(
         bundle,
@@ -57,7 +64,7 @@ fn run(
         number: 0,
         len: e.next,
         sheet: e.len,
-        closed: ends_in_newline(text) & m.whole & e.whole,
+        closed: ends_in_newline(text) & whole & e.whole,
     }
 }
 

@@ -1,5 +1,5 @@
 -- Scanning at a place of a text.
-use Rattle.std.specs.Prelude.{◌≡◌, List, [], ◌∷◌, ◌++◌, Bool, true, false, not, ◌&&◌, ltb, eqb, length, take, get_or}
+use Rattle.std.specs.Prelude.{◌≡◌, List, [], ◌∷◌, ◌++◌, Bool, true, false, not, ltb, eqb, length, take, get_or}
 use Rattle.std.proofs.Math.Path.{refl}
 use Rattle.std.proofs.Common.{sym, ap, ◌∙◌, append_assoc, append-nil, true≢false, add-zero, drop_of_length-le, length-append, length-drop, drop-drop, take-add, take_all, length-take-le}
 use Rattle.std.proofs.lemmas.Bool.{false≢true}
@@ -11,10 +11,10 @@ use native.Mathlib.Omega.{arith}
 use Rattle.std.proofs.Math.Decide.{dec_le}
 use Rattle.std.proofs.Math.ListN.{drop}
 use Rattle.std.proofs.Math.Seq.{drop-cons, take-nil, take-append_seam}
-use borrow.Author.Tests.{lt-ltb, le-ltb, eq-eqb, ne_eqb, eqb-true, eqb-false, not-true as negated-true, not-false as negated-false}
-use Rattle.rules.specs.Reader.{the, but, all, empty, span, sees, skip, prefix, same, mark}
+use borrow.Author.Tests.{lt-ltb, le-ltb, eq-eqb, ne_eqb, eqb-true, not-true as negated-true, not-false as negated-false}
+use Rattle.rules.specs.Reader.{the, but, all, empty, span, sees, skip, prefix, mark}
 use Rattle.rules.specs.Run.{ends_in_newline}
-use Rattle.rules.proofs.Laws.Bool.{and_l, and_r, and_i, not-true}
+use Rattle.rules.proofs.Laws.Bool.{and_l, and_r, and_i}
 use Rattle.scan.specs.Sets.{byte_is, Spans, Sees, Starts, Stands, Skips}
 
 module _ (p : ℕ → Bool) (t : List ℕ) (i : ℕ) where
@@ -211,11 +211,6 @@ stands m t at l h =
       text = rw z (ap (take (length m)) e ∙ take-append_seam m (drop (length m) (drop at t)));
     }
 
--- Two texts are the same where they are as long and one begins with the other.
-pub same_of : (p q : List ℕ) {r : Bool} → Starts p q 0 r → (eqb (length p) (length q) && r) ≡ same p q
-unfolding same
-same_of p q {r} s = rw (sym s.says)
-
 -- All bytes to the end.
 none-all : (p : ℕ → Bool) (x : ℕ) (xs : List ℕ) (c : Bool) → p x ≡ c → (span p (x ∷ xs)).1 ≡ [] → ((span p xs).1 ≡ [] → all p xs ≡ true) → all p (x ∷ xs) ≡ true
 unfolding span all
@@ -235,20 +230,6 @@ pub all-span : (p : ℕ → Bool) (t : List ℕ) → all p t ≡ true → (span 
 unfolding span all
 all-span p [] h = refl
 all-span p (x ∷ xs) h = all_none p x xs h (all-span p xs (and_r (p x) (all p xs) h))
-
-pub spans_all : (p : ℕ → Bool) (t : List ℕ) (i j : ℕ) → Spans p t i j → j ≡ length t → all p (drop i t) ≡ true
-spans_all p t i j s e = span-all p (drop i t) (s.rest ∙ drop_of_length-le t {i = j} (omega arith))
-
-pub spans-not : (p : ℕ → Bool) (t : List ℕ) (i j : ℕ) → Spans p t i j → (j ≡ length t → ⊥) → all p (drop i t) ≡ false
-spans-not p t i j s n = not-true _ (λ a. n (omega (arith, s.inside, length-drop j t, ap length (sym s.rest ∙ all-span p (drop i t) a))))
-
--- What a comparison of the end with the length says.
-pub all-says : (p : ℕ → Bool) (t : List ℕ) (j : ℕ) → Spans p t 0 j → eqb j (length t) ≡ all p t
-all-says p t j s = go (eqb j (length t)) refl
-  where
-    go : (c : Bool) → eqb j (length t) ≡ c → c ≡ all p t
-    go true e = sym (spans_all p t 0 j s (eqb-true j (length t) e))
-    go false e = sym (spans-not p t 0 j s (eqb-false j (length t) e))
 
 pub drop-take : (a n : ℕ) (l : List ℕ) → drop a (take n l) ≡ take (n - a) (drop a l)
 drop-take zero n l = rw sub-zero

@@ -6,8 +6,15 @@ ghost use Rattle.rules.specs.Reader.{all, same};
 ghost use Rattle.rules.specs.Bytes.{ascii, blank, letter, word};
 ghost use Rattle.scan.specs.Sets.{member, byte_is, not_byte, Spans, Sees, Starts, Skips};
 
+// A part of a text, from a place up to another.
+#[derive(Clone, Copy, Debug, PartialEq, Eq)]
+pub struct Range {
+    pub from: usize,
+    pub to: usize,
+}
+
 // The sets of bytes that are scanned for; `member` of specs/Sets says what each holds.
-#[derive(Clone, Copy)]
+#[derive(Clone, Copy, Debug, PartialEq, Eq)]
 pub enum Set {
     Blank,
     LineBlank,
@@ -28,18 +35,21 @@ pub enum Set {
 }
 
 // The classes that sets are made of. Each set asks only for what it needs: this is done for every byte that is scanned.
+#[tactic(auto, unfolding(crate::specs::Sets::classes))]
 fn blank(x: u8) -> bool
     ensures { result ≡ blank x }
 {
     ((9 <= x) & (x <= 13)) | (x == 32)
 }
 
+#[tactic(auto, unfolding(crate::specs::Sets::classes))]
 fn letter(x: u8) -> bool
     ensures { result ≡ letter x }
 {
     ((65 <= x) & (x <= 90)) | ((97 <= x) & (x <= 122))
 }
 
+#[tactic(auto, unfolding(crate::specs::Sets::classes))]
 fn word(x: u8) -> bool
     ensures { result ≡ word x }
 {
@@ -47,6 +57,7 @@ fn word(x: u8) -> bool
 }
 
 // Is the byte in the set?
+#[tactic(auto, unfolding(crate::specs::Sets::classes))]
 pub fn member(set: Set, x: u8) -> bool
     ensures { result ≡ member set x }
 {
@@ -75,100 +86,55 @@ pub fn span(text: &[u8], at: usize, set: Set) -> usize
     requires { at ≤ length text.now }
     ensures { Spans (member set) text.now at result }
 {
-    let mut i = at;
-    while i < text.len() {
-        let stop = !member(set, text[i]);
-        if stop {
-            return i;
-        }
-        i += 1;
-    }
-    i
+    at + text[at..].iter().take_while(|x| member(set, **x)).count()
 }
 
 // Are all bytes of the set?
 pub fn all(text: &[u8], set: Set) -> bool
     ensures { result ≡ all (member set) text.now }
 {
-    span(text, 0, set) == text.len()
+    text.iter().all(|x| member(set, *x))
 }
 
-// Has a block of 32 bytes no byte c? Every byte is looked at, so that the compiler compares many at once.
-fn block_without(text: &[u8], at: usize, c: u8) -> bool
-    requires { at + 32 ≤ length text.now }
-    ensures { result ≡ all (not_byte c) (take 32 (drop at text.now)) }
-{
-    let mut good = true;
-    let mut i: usize = 0;
-    while i < 32 {
-        good = good & (text[at + i] != c);
-        i += 1;
-    }
-    good
-}
-
-// The next place of the byte c from a place on, or the end: block by block.
+// The next place of the byte c from a place on, or the end: block by block, then byte by byte. The kit's `memchr` takes twice as
+// long where the byte stands close by.
 pub fn find(text: &[u8], at: usize, c: u8) -> usize
     requires { at ≤ length text.now }
     ensures { Spans (not_byte c) text.now at result }
 {
     let mut i = at;
-    while 32 <= text.len() - i {
-        if !block_without(text, i, c) {
-            return near(text, i, c);
-        }
+    while 32 <= text.len() - i && !text[i..i + 32].contains(&c) {
         i += 32;
     }
-    near(text, i, c)
-}
-
-// The next place of the byte c from a place on, or the end: byte by byte.
-fn near(text: &[u8], at: usize, c: u8) -> usize
-    requires { at ≤ length text.now }
-    ensures { Spans (not_byte c) text.now at result }
-{
-    let mut i = at;
-    while i < text.len() {
-        if text[i] == c {
-            return i;
-        }
-        i += 1;
+    match text[i..].iter().position(|x| *x == c) {
+        Some(n) => i + n,
+        None => text.len(),
     }
-    i
 }
 
-// Are all bytes below 128? Every byte is looked at, as in `block_without`.
+// Are all bytes below 128?
 pub fn is_ascii(text: &[u8]) -> bool
     ensures { result ≡ all ascii text.now }
 {
-    let mut good = true;
-    let mut i: usize = 0;
-    while i < text.len() {
-        good = good & (text[i] < 128);
-        i += 1;
-    }
-    good
+    text.is_ascii()
 }
 
 // Is there a byte of the set at a place?
 pub fn sees(text: &[u8], at: usize, set: Set) -> bool
     ensures { Sees (member set) text.now at result }
 {
-    if at < text.len() {
-        member(set, text[at])
-    } else {
-        false
-    }
+    text.get(at).is_some_and(|x| member(set, *x))
 }
 
 // Does this byte stand at a place?
 pub fn at(text: &[u8], i: usize, c: u8) -> bool
     ensures { Sees (byte_is c) text.now i result }
 {
-    if i < text.len() { text[i] == c } else { false }
+    text.get(i) == Some(&c)
 }
 
-// Does the mark stand at a place?
+// Does the mark stand at a place? A loop, since calls with a mark of the text are unrolled: the slice's own `starts_with`, and `zip`
+// with `all`, take three times as many steps there.
 pub fn starts_with(text: &[u8], at: usize, mark: &[u8]) -> bool
     requires { at ≤ length text.now }
     ensures { Starts mark.now text.now at result }
@@ -190,7 +156,7 @@ pub fn starts_with(text: &[u8], at: usize, mark: &[u8]) -> bool
 pub fn same(p: &[u8], q: &[u8]) -> bool
     ensures { result ≡ same p.now q.now }
 {
-    (p.len() == q.len()) & starts_with(q, 0, p)
+    p == q
 }
 
 // One byte on, or none at the end.
@@ -198,5 +164,5 @@ pub fn skip(text: &[u8], at: usize) -> usize
     requires { at ≤ length text.now }
     ensures { Skips text.now at result }
 {
-    if at < text.len() { at + 1 } else { at }
+    text.len().min(at + 1)
 }

@@ -1,7 +1,7 @@
 -- Lookup in the bytes of a sheet: what a lookup answers, and a walk over a level.
 use Rattle.std.specs.Prelude.{◌≡◌, Bool, false, List, [], ℕ, ◌+◌, ◌≤◌, ◌<◌, length}
 use Rattle.std.proofs.Math.Path.{refl}
-use Rattle.std.proofs.Common.{sym, ap, subst, ◌∙◌, true≢false, arith}
+use Rattle.std.proofs.Common.{sym, ap, ◌∙◌, true≢false, arith}
 use Rattle.std.proofs.Math.Bool.{true}
 use Rattle.std.proofs.Math.Option.{Option, none, some}
 use Rattle.scan.specs.Sets.{part}
@@ -12,10 +12,18 @@ use Rattle.rules.proofs.Laws.Sheet.{good-parts, less-trans}
 use Rattle.sheet.specs.Parts.{Part, part-split, part_slice}
 use Rattle.sheet.specs.Heads.{shape_kind, shape_text}
 use Rattle.sheet.specs.Items.{At, Describes, Holding, Has, lead, inner, encode-join}
-use Rattle.sheet.specs.Order.{order_of, order-less, order-yes, order-no}
+use Rattle.std.specs.declared.cmp.Ordering.{Ordering}
+use Rattle.std.specs.declared.cmp.Ordering.TheVariants.{Less, Equal, Greater}
+use Rattle.std.specs.Ordering.{nat_cmp}
+use Rattle.std.specs.Cmp.Lexicographic.{slice_cmp}
+use Rattle.sheet.specs.Order.{order-less, order-yes, order-no}
+use Rattle.sheet.specs.declared.head.Kind.{Kind}
 use Rattle.sheet.specs.declared.head.Item.{Item}
 use Rattle.sheet.specs.declared.lookup.Found.{Found}
-use Rattle.sheet.specs.declared.lookup.Found.TheVariants.{Missing, None, Text, Dictionary}
+use Rattle.sheet.specs.declared.lookup.Found.TheVariants.{Nothing, Text, Dictionary}
+use Rattle.sheet.specs.declared.head.Kind.TheVariants.{Nothing as OfNothing, Text as OfText, Dictionary as OfDictionary}
+use Rattle.std.specs.Prelude.{Option as RustOption, Some, None}
+use Rattle.scan.specs.declared.Range.{Range}
 
 -- The bytes of some records.
 pub record HasRecords (s : List ℕ) : Type 0 where
@@ -28,26 +36,34 @@ pub record IsSheet (s : List ℕ) : Type 0 where
   pub bytes : s ≡ encode r
   pub good : good_records r word 6 ≡ true
 
--- f tells of x, by places of s.
-unfoldable pub Gives : List ℕ → Option Value → Found → Type 0
-Gives s x Missing = x ≡ none
-Gives s x None = x ≡ some nothing
-Gives s x (Text a b) = (t : List ℕ) × (x ≡ some (text t)) × Part s a t b
-Gives s x (Dictionary a b n) = (d : Records) × (x ≡ some (dictionary d)) × Part s a (encode d) b × (count d ≡ n)
+-- f tells of the value v, by places of s.
+unfoldable pub Tells : List ℕ → Value → Found → Type 0
+Tells s v Nothing = v ≡ nothing
+Tells s v (Text p) = (t : List ℕ) × (v ≡ text t) × Part s p.from t p.to
+Tells s v (Dictionary p n) = (d : Records) × (v ≡ dictionary d) × Part s p.from (encode d) p.to × (count d ≡ n)
+
+-- f tells of x, which may be missing.
+unfoldable pub Gives : List ℕ → Option Value → RustOption Found → Type 0
+Gives s x None = x ≡ none
+Gives s x (Some f) = (v : Value) × (x ≡ some v) × Tells s v f
+
+pub gives_one : (s : List ℕ) (x : Option Value) {o : RustOption Found} → Gives s x o → {f : Found} → o ≡ Some f → (v : Value) × (x ≡ some v) × Tells s v f
+unfolding Gives
+gives_one s x g e = rw e at g
 
 -- The kind of each case (01, section 2).
-unfoldable pub found_kind : Found → ℕ
-found_kind Missing = 0
-found_kind None = 1
-found_kind (Text a b) = 2
-found_kind (Dictionary a b n) = 3
+unfoldable pub found_kind : RustOption Found → ℕ
+found_kind None = 0
+found_kind (Some Nothing) = 1
+found_kind (Some (Text p)) = 2
+found_kind (Some (Dictionary p n)) = 3
 
-pub gives-kind : (s : List ℕ) (x : Option Value) (f : Found) → Gives s x f → found_kind f ≡ kind_of x
-unfolding Gives found_kind kind_of
-gives-kind s x Missing g = rw g refl
+pub gives-kind : (s : List ℕ) (x : Option Value) (f : RustOption Found) → Gives s x f → found_kind f ≡ kind_of x
+unfolding Gives Tells found_kind kind_of
 gives-kind s x None g = rw g refl
-gives-kind s x (Text a b) g = rw g.1 refl
-gives-kind s x (Dictionary a b n) g = rw g.1 refl
+gives-kind s x (Some Nothing) g = rw (g.1, g.2) refl
+gives-kind s x (Some (Text p)) g = rw (g.1, g.2.1) refl
+gives-kind s x (Some (Dictionary p n)) g = rw (g.1, g.2.1) refl
 
 -- The text t is the part of s from a to b.
 pub record Places (s t : List ℕ) (a b : ℕ) : Type 0 where
@@ -56,9 +72,9 @@ pub record Places (s t : List ℕ) (a b : ℕ) : Type 0 where
   pub text : part s a b ≡ t
 
 -- Where the text of each case stands: an empty part unless it is a text.
-pub places-text : {f : Found} {a b : ℕ} → f ≡ Text a b → (s : List ℕ) (x : Option Value) → Gives s x f → Places s (text_of x) a b
-unfolding Gives text_of
-places-text e s x g₀ = let g = rw e at g₀ in record { on = omega (arith, g.2.ends); inside = g.2.inside; text = rw g.1 (part_slice g.2) }
+pub places-text : {f : RustOption Found} {p : Range} → f ≡ Some (Text p) → (s : List ℕ) (x : Option Value) → Gives s x f → Places s (text_of x) p.from p.to
+unfolding Tells text_of
+places-text e s x w = let g = gives_one s x w e in let t = g.2 in record { on = omega (arith, t.2.ends); inside = t.2.inside; text = rw (g.1, t.1) (part_slice t.2) }
 
 no_text : (x : Option Value) → (kind_of x ≡ 2 → ⊥) → text_of x ≡ []
 unfolding kind_of text_of
@@ -67,7 +83,7 @@ no_text (some nothing) h = refl
 no_text (some (text t)) h = absurd (h refl)
 no_text (some (dictionary r)) h = refl
 
-pub places-none : {f g : Found} → f ≡ g → (found_kind g ≡ 2 → ⊥) → (s : List ℕ) (x : Option Value) → Gives s x f → Places s (text_of x) 0 0
+pub places-none : {f g : RustOption Found} → f ≡ g → (found_kind g ≡ 2 → ⊥) → (s : List ℕ) (x : Option Value) → Gives s x f → Places s (text_of x) 0 0
 places-none {f} e h s x g = record { on = omega arith; inside = omega arith; text = sym (no_text x (λ k. h (ap found_kind (sym e) ∙ gives-kind s x f g ∙ k))) }
 
 -- LAWS.
@@ -109,23 +125,41 @@ module _ {s : List ℕ} {v : Value} {o : Item} (d : Body s v o) where
   pub body_has : Has s o.next o.count
   body_has = record { r = inner v; j = o.next + length (encode (inner v)); holds = body-holding }
 
-pub gives_none : {s : List ℕ} (v : Value) {o : Item} → Body s v o → o.kind ≡ 1 → Gives s (some v) None
-unfolding shape_kind lead Gives
-gives_none (text t) d h = absurd (omega (arith, d.sort))
-gives_none nothing d h = refl
-gives_none (dictionary r) d h = absurd (omega (arith, d.sort))
+pub tells_nothing : {s : List ℕ} (v : Value) {o : Item} → Body s v o → o.kind ≡ OfNothing → Tells s v Nothing
+unfolding shape_kind lead Tells
+tells_nothing (text t) d h = absurd (not_text (sym h ∙ d.sort))
+  where
+    not_text : ◌≡◌ {A = Kind} OfNothing OfText → ⊥
+    not_text e = cc
+tells_nothing nothing d h = refl
+tells_nothing (dictionary r) d h = absurd (not_dictionary (sym h ∙ d.sort))
+  where
+    not_dictionary : ◌≡◌ {A = Kind} OfNothing OfDictionary → ⊥
+    not_dictionary e = cc
 
-pub gives-text : {s : List ℕ} (v : Value) {o : Item} → Body s v o → (o.kind ≡ 1 → ⊥) → (o.kind ≡ 3 → ⊥) → Gives s (some v) (Text o.at o.next)
-unfolding shape_kind shape_text lead Gives
-gives-text (text t) d h k = (t, refl, d.text)
-gives-text nothing d h k = absurd (h d.sort)
-gives-text (dictionary r) d h k = absurd (k d.sort)
+pub tells-text : {s : List ℕ} (v : Value) {o : Item} → Body s v o → o.kind ≡ OfText → Tells s v (Text (record { from = o.at; to = o.next }))
+unfolding shape_kind shape_text lead Tells
+tells-text (text t) d h = (t, refl, d.text)
+tells-text nothing d h = absurd (not_nothing (sym h ∙ d.sort))
+  where
+    not_nothing : ◌≡◌ {A = Kind} OfText OfNothing → ⊥
+    not_nothing e = cc
+tells-text (dictionary r) d h = absurd (not_dictionary (sym h ∙ d.sort))
+  where
+    not_dictionary : ◌≡◌ {A = Kind} OfText OfDictionary → ⊥
+    not_dictionary e = cc
 
-pub gives-dictionary : {s : List ℕ} (v : Value) {o : Item} {e : ℕ} → Body s v o → o.kind ≡ 3 → e ≡ o.next + length (encode (inner v)) → Gives s (some v) (Dictionary o.next e o.count)
-unfolding shape_kind lead Gives inner
-gives-dictionary (text t) d h k = absurd (omega (arith, d.sort))
-gives-dictionary nothing d h k = absurd (omega (arith, d.sort))
-gives-dictionary (dictionary r) d h k = (r, refl, rw k d.part, d.number)
+pub tells-dictionary : {s : List ℕ} (v : Value) {o : Item} {e : ℕ} → Body s v o → o.kind ≡ OfDictionary → e ≡ o.next + length (encode (inner v)) → Tells s v (Dictionary (record { from = o.next; to = e }) o.count)
+unfolding shape_kind lead Tells inner
+tells-dictionary (text t) d h k = absurd (not_text (sym h ∙ d.sort))
+  where
+    not_text : ◌≡◌ {A = Kind} OfDictionary OfText → ⊥
+    not_text e = cc
+tells-dictionary nothing d h k = absurd (not_nothing (sym h ∙ d.sort))
+  where
+    not_nothing : ◌≡◌ {A = Kind} OfDictionary OfNothing → ⊥
+    not_nothing e = cc
+tells-dictionary (dictionary r) d h k = (r, refl, rw k d.part, d.number)
 
 -- A level of a sheet: good records from a place to another.
 pub record Level (s : List ℕ) (at e : ℕ) : Type 0 where
@@ -145,11 +179,17 @@ get-before (rec k v r) p l m name g b h =
     let z : same k name ≡ false = order-no k name (λ e. true≢false (sym j ∙ (order-less k name).1 ∙ rw e refl)) in
     rw (z, get) (get-before r p l k name w.later w.order j)
 
-get-yes : (n : List ℕ) (v : Value) (q : Records) (name : List ℕ) → order_of n name ≡ 1 → get (rec n v q) name ≡ some v
+other : ◌≡◌ {A = Ordering} Greater Equal → ⊥
+other h = cc
+
+unlike : ◌≡◌ {A = Ordering} Less Equal → ⊥
+unlike h = cc
+
+get-yes : (n : List ℕ) (v : Value) (q : Records) (name : List ℕ) → slice_cmp nat_cmp n name ≡ Equal → get (rec n v q) name ≡ some v
 unfolding get
 get-yes n v q name h = rw (order-yes n name h, get) refl
 
-get-no : (n : List ℕ) (v : Value) (q : Records) (name : List ℕ) → (order_of n name ≡ 1 → ⊥) → get (rec n v q) name ≡ get q name
+get-no : (n : List ℕ) (v : Value) (q : Records) (name : List ℕ) → (slice_cmp nat_cmp n name ≡ Equal → ⊥) → get (rec n v q) name ≡ get q name
 unfolding get
 get-no n v q name h = rw (order-no n name h, get) refl
 
@@ -183,30 +223,31 @@ sought {s} {i} {e} {r} {name} k h = go k.left.r k.left.part k.left.good k.same
 pub sought-at : {s : List ℕ} {i e : ℕ} {r : Records} {name : List ℕ} → Sought s i e r name → At s i
 sought-at {e = e} k = record { n = k.n; v = k.v; r = k.q; j = e; part = k.part }
 
-pub seek_end : {s : List ℕ} {i e : ℕ} {r : Records} {name : List ℕ} → Seeking s i e r name → e ≤ i → Gives s (get r name) Missing
+pub seek_end : {s : List ℕ} {i e : ℕ} {r : Records} {name : List ℕ} → Seeking s i e r name → e ≤ i → Gives s (get r name) None
 unfolding encode get Gives
 seek_end {s} {i} {e} {r} {name} k h = go k.left.r k.left.part k.same
   where
-    go : (q : Records) → Part s i (encode q) e → get r name ≡ get q name → Gives s (get r name) Missing
+    go : (q : Records) → Part s i (encode q) e → get r name ≡ get q name → Gives s (get r name) None
     go end p f = f
     go (rec n v q) p f = absurd (omega (arith, p.ends))
 
-module _ {s : List ℕ} {i e : ℕ} {r : Records} {name : List ℕ} (k : Sought s i e r name) {a b c : ℕ} (p : Part s a k.n b) (h : c ≡ order_of (part s a b) name) where
-  order_is : order_of k.n name ≡ c
-  order_is = sym (h ∙ ap (λ z. order_of z name) (part_slice p))
+module _ {s : List ℕ} {i e : ℕ} {r : Records} {name : List ℕ} (k : Sought s i e r name) {a b : ℕ} {c : Ordering} (p : Part s a k.n b) (h : c ≡ slice_cmp nat_cmp (part s a b) name) where
+  order_is : slice_cmp nat_cmp k.n name ≡ c
+  order_is = sym (h ∙ ap (λ z. slice_cmp nat_cmp z name) (part_slice p))
 
-  pub seek_found : (f : Found) → c ≡ 1 → Gives s (some k.v) f → Gives s (get r name) f
-  seek_found f g w = subst (λ z. Gives s z f) (sym (k.same ∙ get-yes k.n k.v k.q name (order_is ∙ g))) w
+  pub seek_found : (f : Found) → c ≡ Equal → Tells s k.v f → Gives s (get r name) (Some f)
+  unfolding Gives
+  seek_found f g w = (k.v, k.same ∙ get-yes k.n k.v k.q name (order_is ∙ g), w)
 
-  pub seek_passed : c ≡ 2 → Gives s (get r name) Missing
+  pub seek_passed : c ≡ Greater → Gives s (get r name) None
   unfolding Gives
   seek_passed g =
       let w = good-parts k.n k.v k.q k.p k.l k.good in
       let j : less name k.n ≡ true = (order-less k.n name).1 ∙ rw (order_is ∙ g) refl in
-      k.same ∙ get-no k.n k.v k.q name (λ z. absurd (omega (arith, order_is, z, g))) ∙ get-before k.q k.p k.l k.n name w.later w.order j
+      k.same ∙ get-no k.n k.v k.q name (λ z. other (sym g ∙ sym order_is ∙ z)) ∙ get-before k.q k.p k.l k.n name w.later w.order j
 
-  pub seek_on : {i' : ℕ} → (c ≡ 1 → ⊥) → Part s i' (encode k.q) e → Seeking s i' e r name
+  pub seek_on : {i' : ℕ} → c ≡ Less → Part s i' (encode k.q) e → Seeking s i' e r name
   seek_on g w = record {
     left = record { r = k.q; p = k.p; l = k.l; part = w; good = (good-parts k.n k.v k.q k.p k.l k.good).later };
-    same = k.same ∙ get-no k.n k.v k.q name (λ z. g (sym order_is ∙ z));
+    same = k.same ∙ get-no k.n k.v k.q name (λ z. unlike (sym g ∙ sym order_is ∙ z));
   }

@@ -14,8 +14,10 @@ use Rattle.rules.specs.Reader.{empty}
 use Rattle.rules.specs.Layout.{Parser, bind, ◌>>=◌, ◌>>◌, pure, broken, require, bit, byte, word16, take_bytes, field, field_if}
 use Rattle.rules.proofs.Laws.Bool.{or_elim, or-false-l, or-false-r}
 use Rattle.rules.proofs.Laws.Layout.{word-at, word_end, takes, takes-short, take-some}
-use Rattle.sheet.specs.declared.head.Head.{Head}
-use Rattle.sheet.specs.declared.head.Head.TheVariants.{Bad, Record}
+use Rattle.std.specs.Prelude.{Option as RustOption, Some, None}
+use Rattle.scan.specs.declared.Range.{Range}
+use Rattle.sheet.specs.declared.head.Kind.{Kind}
+use Rattle.sheet.specs.declared.head.Kind.TheVariants.{Nothing, Text, Dictionary}
 use Rattle.sheet.specs.declared.head.Item.{Item}
 
 -- The value of a head: a text, none, or so many records behind it.
@@ -24,10 +26,10 @@ pub data Shape : Type 0 where
   absent : Shape
   holding : ℕ → Shape
 
-unfoldable pub shape_kind : Shape → ℕ
-shape_kind (plain t) = 2
-shape_kind absent = 1
-shape_kind (holding n) = 3
+unfoldable pub shape_kind : Shape → Kind
+shape_kind (plain t) = Text
+shape_kind absent = Nothing
+shape_kind (holding n) = Dictionary
 
 unfoldable pub shape_text : Shape → List ℕ
 shape_text (plain t) = t
@@ -71,11 +73,16 @@ good_map m = ((eqb (m / 2) 0 || eqb (m / 2) 1) || eqb (m / 2) 2) || eqb (m / 2) 
 abbrev pub word_at : List ℕ → ℕ → ℕ
 word_at s at = get_or s at 0 + 256 * get_or s (at + 1) 0
 
--- r is the length of the field at a place, or 0 where there is none.
-pub record IsField (s : List ℕ) (at r : ℕ) : Type 0 where
-  pub missing : r ≡ 0 → field word16 (drop at s) ≡ none
-  pub inside : (r ≡ 0 → ⊥) → at + 2 + r ≤ length s
-  pub is : (r ≡ 0 → ⊥) → field word16 (drop at s) ≡ some (part s (at + 2) (at + 2 + r), drop (at + 2 + r) s)
+-- The text of the field at a place is r.
+pub record InField (s : List ℕ) (at : ℕ) (r : Range) : Type 0 where
+  pub begins : r.from ≡ at + 2
+  pub on : r.from ≤ r.to
+  pub inside : r.to ≤ length s
+  pub is : field word16 (drop at s) ≡ some (part s r.from r.to, drop r.to s)
+
+abbrev pub IsField : List ℕ → ℕ → RustOption Range → Type 0
+IsField s at None = field word16 (drop at s) ≡ none
+IsField s at (Some r) = InField s at r
 
 -- The item o tells of the value at a place, which the map byte m names.
 pub record IsValue (s : List ℕ) (m to : ℕ) (o : Item) : Type 0 where
@@ -88,26 +95,26 @@ pub record IsValue (s : List ℕ) (m to : ℕ) (o : Item) : Type 0 where
   pub text : part s o.at o.next ≡ shape_text v
   pub number : o.count ≡ shape_count v
 
-unfoldable pub ValueReads : List ℕ → ℕ → ℕ → ℕ → Head → Type 0
-ValueReads s m from to Bad = shape (m / 2) (drop to s) ≡ none
-ValueReads s m from to (Record o) = (o.from ≡ from) × (o.to ≡ to) × IsValue s m to o
+unfoldable pub ValueReads : List ℕ → ℕ → Range → RustOption Item → Type 0
+ValueReads s m name None = shape (m / 2) (drop name.to s) ≡ none
+ValueReads s m name (Some o) = (o.name ≡ name) × IsValue s m name.to o
 
 -- The item o tells of the record at a place.
 pub record IsItem (s : List ℕ) (i : ℕ) (o : Item) : Type 0 where
   pub v : Shape
-  pub is : head (drop i s) ≡ some ((part s o.from o.to, v), drop o.next s)
-  pub past : i < o.from
-  pub name : o.from ≤ o.to
-  pub behind : o.to ≤ o.at
+  pub is : head (drop i s) ≡ some ((part s o.name.from o.name.to, v), drop o.next s)
+  pub past : i < o.name.from
+  pub name : o.name.from ≤ o.name.to
+  pub behind : o.name.to ≤ o.at
   pub on : o.at ≤ o.next
   pub inside : o.next ≤ length s
   pub sort : o.kind ≡ shape_kind v
   pub text : part s o.at o.next ≡ shape_text v
   pub number : o.count ≡ shape_count v
 
-unfoldable pub Reads : List ℕ → ℕ → Head → Type 0
-Reads s i Bad = head (drop i s) ≡ none
-Reads s i (Record o) = IsItem s i o
+unfoldable pub Reads : List ℕ → ℕ → RustOption Item → Type 0
+Reads s i None = head (drop i s) ≡ none
+Reads s i (Some o) = IsItem s i o
 
 -- LAWS.
 field-empty : (b c : List ℕ) → word16 b ≡ some (0, c) → field word16 b ≡ none
@@ -123,24 +130,28 @@ unfolding field require pure bind ◌>>=◌ ◌>>◌
 field-some b c n e h k = rw e (rw (takes n c h) (rw (take-some n c (omega (arith, k)) h) refl))
 
 -- What `field` answers.
-pub field-short : (s : List ℕ) (at : ℕ) → length s - at < 2 → IsField s at 0
+pub field-short : (s : List ℕ) (at : ℕ) → length s - at < 2 → IsField s at None
 unfolding field bind ◌>>=◌
-field-short s at h = record { missing = λ e. rw (word_end s at (omega arith)) refl; inside = λ e. absurd (e refl); is = λ e. absurd (e refl) }
+field-short s at h = rw (word_end s at (omega arith)) refl
 
 module _ (s : List ℕ) (at n : ℕ) (e : n ≡ word_at s at) (g : at + 2 ≤ length s) where
   read-n : word16 (drop at s) ≡ some (n, drop (at + 2) s)
   read-n = word-at s at (omega arith) ∙ ap (λ z. some (z, drop (at + 2) s)) (sym e)
 
-  pub field-over : length s - at - 2 < n → IsField s at 0
-  field-over h = record { missing = λ z. field-long (drop at s) (drop (at + 2) s) n read-n (rw length-drop (omega arith)); inside = λ z. absurd (z refl); is = λ z. absurd (z refl) }
+  pub field_none : n ≡ 0 → IsField s at None
+  field_none z = field-empty (drop at s) (drop (at + 2) s) (rw z at read-n)
 
-  pub field_in : n ≤ length s - at - 2 → IsField s at n
-  field_in h =
+  pub field-over : length s - at - 2 < n → IsField s at None
+  field-over h = field-long (drop at s) (drop (at + 2) s) n read-n (rw length-drop (omega arith))
+
+  pub field_in : n ≤ length s - at - 2 → (n ≡ 0 → ⊥) → IsField s at (Some (record { from = at + 2; to = at + 2 + n }))
+  field_in h z =
       let k : at + 2 + n - (at + 2) ≡ n = omega arith in
       record {
-        missing = λ z. field-empty (drop at s) (drop (at + 2) s) (rw z at read-n);
-        inside = λ z. omega arith;
-        is = λ z. field-some (drop at s) (drop (at + 2) s) n read-n (rw length-drop (omega arith)) z ∙ rw (drop-drop, k) refl;
+        begins = refl;
+        on = omega arith;
+        inside = omega arith;
+        is = field-some (drop at s) (drop (at + 2) s) n read-n (rw length-drop (omega arith)) z ∙ rw (drop-drop, k) refl;
       }
 
 -- MASKS.
@@ -275,82 +286,77 @@ shape-nothing k b e = rw e refl
 slice-none : (f : ℕ) (s : List ℕ) → part s f f ≡ []
 slice-none f s = let e : f - f ≡ 0 = omega arith in rw e refl
 
-module _ (s : List ℕ) (m from to : ℕ) (g : good_map m ≡ true) where
-  pub value-text : {k : ℕ} → (bit_and m 2 ≡ 0 → ⊥) → IsField s to k → (k ≡ 0 → ⊥) →
-      ValueReads s m from to (Record (record { from = from; to = to; kind = 2; at = to + 2; next = to + 2 + k; count = 0 }))
+module _ (s : List ℕ) (m : ℕ) (n : Range) (g : good_map m ≡ true) where
+  pub value-text : {r : Range} → (bit_and m 2 ≡ 0 → ⊥) → InField s n.to r → ValueReads s m n (Some (record { name = n; kind = Text; at = r.from; next = r.to; count = 0 }))
   unfolding ValueReads shape_kind shape_text shape_count bind
-  value-text {k} h f z = (
-    refl,
+  value-text {r} h f = (
     refl,
     record {
-      v = plain (part s (to + 2) (to + 2 + k));
-      is = shape-text (m / 2) (drop to s) (is-text m g h) ∙ rw (f.is z) refl;
-      behind = omega arith;
-      on = omega arith;
-      inside = f.inside z;
+      v = plain (part s r.from r.to);
+      is = shape-text (m / 2) (drop n.to s) (is-text m g h) ∙ rw f.is refl;
+      behind = omega (arith, f.begins);
+      on = f.on;
+      inside = f.inside;
       sort = refl;
       text = refl;
       number = refl;
     },
   )
 
-  pub value-no-text : {k : ℕ} → (bit_and m 2 ≡ 0 → ⊥) → IsField s to k → k ≡ 0 → ValueReads s m from to Bad
+  pub value-no-text : (bit_and m 2 ≡ 0 → ⊥) → field word16 (drop n.to s) ≡ none → ValueReads s m n None
   unfolding ValueReads bind
-  value-no-text h f z = shape-text (m / 2) (drop to s) (is-text m g h) ∙ rw (f.missing z) refl
+  value-no-text h f = shape-text (m / 2) (drop n.to s) (is-text m g h) ∙ rw f refl
 
-  pub value-dictionary : {n : ℕ} → (bit_and m 4 ≡ 0 → ⊥) → to + 2 ≤ length s → n ≡ word_at s to →
-      ValueReads s m from to (Record (record { from = from; to = to; kind = 3; at = to + 2; next = to + 2; count = n }))
+  pub value-dictionary : {k : ℕ} → (bit_and m 4 ≡ 0 → ⊥) → n.to + 2 ≤ length s → k ≡ word_at s n.to →
+      ValueReads s m n (Some (record { name = n; kind = Dictionary; at = n.to + 2; next = n.to + 2; count = k }))
   unfolding ValueReads shape_kind shape_text shape_count bind
-  value-dictionary {n} h l e = (
-    refl,
+  value-dictionary {k} h l e = (
     refl,
     record {
-      v = holding n;
-      is = shape-dictionary (m / 2) (drop to s) (is-dictionary m g h) ∙ rw (word-at s to (omega arith), e) refl;
+      v = holding k;
+      is = shape-dictionary (m / 2) (drop n.to s) (is-dictionary m g h) ∙ rw (word-at s n.to (omega arith), e) refl;
       behind = omega arith;
       on = omega arith;
       inside = l;
       sort = refl;
-      text = slice-none (to + 2) s;
+      text = slice-none (n.to + 2) s;
       number = refl;
     },
   )
 
-  pub value-no-count : (bit_and m 4 ≡ 0 → ⊥) → length s - to < 2 → ValueReads s m from to Bad
+  pub value-no-count : (bit_and m 4 ≡ 0 → ⊥) → length s - n.to < 2 → ValueReads s m n None
   unfolding ValueReads bind
-  value-no-count h l = shape-dictionary (m / 2) (drop to s) (is-dictionary m g h) ∙ rw (word_end s to (omega arith)) refl
+  value-no-count h l = shape-dictionary (m / 2) (drop n.to s) (is-dictionary m g h) ∙ rw (word_end s n.to (omega arith)) refl
 
-  module _ (l : to ≤ length s) where
-    pub value-nothing : (bit_and m 8 ≡ 0 → ⊥) → ValueReads s m from to (Record (record { from = from; to = to; kind = 1; at = to; next = to; count = 0 }))
+  module _ (l : n.to ≤ length s) where
+    pub value-nothing : (bit_and m 8 ≡ 0 → ⊥) → ValueReads s m n (Some (record { name = n; kind = Nothing; at = n.to; next = n.to; count = 0 }))
     unfolding ValueReads shape_kind shape_text shape_count
     value-nothing h = (
       refl,
-      refl,
       record {
         v = absent;
-        is = shape-nothing (m / 2) (drop to s) (is-nothing m g h);
+        is = shape-nothing (m / 2) (drop n.to s) (is-nothing m g h);
         behind = omega arith;
         on = omega arith;
         inside = l;
         sort = refl;
-        text = slice-none to s;
+        text = slice-none n.to s;
         number = refl;
       },
     )
 
-    pub value-empty : bit_and m 2 ≡ 0 → bit_and m 4 ≡ 0 → bit_and m 8 ≡ 0 → ValueReads s m from to (Record (record { from = from; to = to; kind = 2; at = to; next = to; count = 0 }))
+    pub value-empty : bit_and m 2 ≡ 0 → bit_and m 4 ≡ 0 → bit_and m 8 ≡ 0 → ValueReads s m n (Some (record { name = n; kind = Text; at = n.to; next = n.to; count = 0 }))
     unfolding ValueReads shape_kind shape_text shape_count
     value-empty h i j = (
       refl,
-      refl,
       record {
         v = plain [];
-        is = shape-empty (m / 2) (drop to s) (is-empty m g h i j);
+        is = shape-empty (m / 2) (drop n.to s) (is-empty m g h i j);
         behind = omega arith;
         on = omega arith;
         inside = l;
         sort = refl;
-        text = slice-none to s;
+        text = slice-none n.to s;
         number = refl;
       },
     )
@@ -363,15 +369,15 @@ text-map = refl
 pub text-bit : bit_and 2 2 ≡ 0 → ⊥
 text-bit e = omega arith
 
-pub value_as_text : (s : List ℕ) (m from to : ℕ) → good_map m ≡ true → (h : Head) → (bit_and m 2 ≡ 0 → ⊥) → ValueReads s 2 from to h → ValueReads s m from to h
+pub value_as_text : (s : List ℕ) (m : ℕ) (n : Range) → good_map m ≡ true → (h : RustOption Item) → (bit_and m 2 ≡ 0 → ⊥) → ValueReads s 2 n h → ValueReads s m n h
 unfolding ValueReads
-value_as_text s m from to g Bad n w = rw (is-text m g n) w
-value_as_text s m from to g (Record o) n w =
-    let d = w.2 in
-    (w.0, w.1, record { v = d.v; is = rw (is-text m g n) d.is; behind = d.behind; on = d.on; inside = d.inside; sort = d.sort; text = d.text; number = d.number })
+value_as_text s m n g None k w = rw (is-text m g k) w
+value_as_text s m n g (Some o) k w =
+    let d = w.1 in
+    (w.0, record { v = d.v; is = rw (is-text m g k) d.is; behind = d.behind; on = d.on; inside = d.inside; sort = d.sort; text = d.text; number = d.number })
 
 -- THE RECORD.
-pub reads_end : (s : List ℕ) (i : ℕ) → length s ≤ i → Reads s i Bad
+pub reads_end : (s : List ℕ) (i : ℕ) → length s ≤ i → Reads s i None
 unfolding Reads head byte bind ◌>>=◌
 reads_end s i h = rw (drop_of_length-le s h) refl
 
@@ -389,7 +395,7 @@ module _ (s : List ℕ) (i : ℕ) (l : i < length s) where
   unfolding head byte bind pure ◌>>=◌
   opened = rw (drop-cons s i 0 l, add-one) refl
 
-  pub reads-map : good_map (get_or s i 0) ≡ false → Reads s i Bad
+  pub reads-map : good_map (get_or s i 0) ≡ false → Reads s i None
   unfolding Reads good_map bind
   reads-map h =
       let k = get_or s i 0 / 2 in
@@ -397,17 +403,17 @@ module _ (s : List ℕ) (i : ℕ) (l : i < length s) where
       let b = or-false-l (eqb k 0 || eqb k 1) (eqb k 2) a in
       opened ∙ bind-none (field_if (bit 0 (get_or s i 0)) word16 (drop (i + 1) s)) (λ n. bind (shape k n.1) (λ v. some ((n.0, v.0), v.1))) (λ n. rw (shape-broken k n.1 (or-false-l (eqb k 0) (eqb k 1) b) (or-false-r (eqb k 0) (eqb k 1) b) (or-false-r (eqb k 0 || eqb k 1) (eqb k 2) a) (or-false-r ((eqb k 0 || eqb k 1) || eqb k 2) (eqb k 4) h)) refl)
 
-  reads-value : (h : Head) {from to : ℕ} → i < from → from ≤ to → field_if (bit 0 (get_or s i 0)) word16 (drop (i + 1) s) ≡ some (part s from to, drop to s) → ValueReads s (get_or s i 0) from to h → Reads s i h
+  reads-value : (h : RustOption Item) {n : Range} → i < n.from → n.from ≤ n.to → field_if (bit 0 (get_or s i 0)) word16 (drop (i + 1) s) ≡ some (part s n.from n.to, drop n.to s) → ValueReads s (get_or s i 0) n h → Reads s i h
   unfolding Reads ValueReads bind
-  reads-value Bad p q n e = opened ∙ rw n (rw e refl)
-  reads-value (Record o) {from} {to} p q n e =
-      let w = e.2 in
+  reads-value None p q f e = opened ∙ rw f (rw e refl)
+  reads-value (Some o) {n} p q f e =
+      let w = e.1 in
       record {
         v = w.v;
-        is = opened ∙ rw n (rw (w.is, e.0, e.1) refl);
-        past = omega (arith, e.0);
-        name = omega (arith, e.0, e.1);
-        behind = omega (arith, e.1, w.behind);
+        is = opened ∙ rw f (rw (w.is, e.0) refl);
+        past = rw e.0 p;
+        name = rw e.0 q;
+        behind = rw e.0 w.behind;
         on = w.on;
         inside = w.inside;
         sort = w.sort;
@@ -415,16 +421,14 @@ module _ (s : List ℕ) (i : ℕ) (l : i < length s) where
         number = w.number;
       }
 
-  pub reads_plain : (h : Head) → bit_and (get_or s i 0) 1 ≡ 0 → ValueReads s (get_or s i 0) (i + 1) (i + 1) h → Reads s i h
+  pub reads_plain : (h : RustOption Item) → bit_and (get_or s i 0) 1 ≡ 0 → ValueReads s (get_or s i 0) (record { from = i + 1; to = i + 1 }) h → Reads s i h
   unfolding field_if pure
   reads_plain h e = reads-value h (omega arith) (omega arith) (rw (no-name-bit (get_or s i 0) e, slice-none (i + 1) s) refl)
 
-  pub reads-named : (h : Head) {n : ℕ} → (bit_and (get_or s i 0) 1 ≡ 0 → ⊥) → IsField s (i + 1) n → (n ≡ 0 → ⊥) → ValueReads s (get_or s i 0) (i + 3) (i + 3 + n) h → Reads s i h
+  pub reads-named : (h : RustOption Item) {n : Range} → (bit_and (get_or s i 0) 1 ≡ 0 → ⊥) → InField s (i + 1) n → ValueReads s (get_or s i 0) n h → Reads s i h
   unfolding field_if
-  reads-named h {n} e f z =
-      let k : i + 1 + 2 ≡ i + 3 = omega arith in
-      reads-value h (omega arith) (omega arith) (rw (name-bit (get_or s i 0) e) (rw k at (f.is z)))
+  reads-named h {n} e f = reads-value h (omega (arith, f.begins)) f.on (rw (name-bit (get_or s i 0) e) f.is)
 
-  pub reads-no-name : {n : ℕ} → (bit_and (get_or s i 0) 1 ≡ 0 → ⊥) → IsField s (i + 1) n → n ≡ 0 → Reads s i Bad
+  pub reads-no-name : (bit_and (get_or s i 0) 1 ≡ 0 → ⊥) → field word16 (drop (i + 1) s) ≡ none → Reads s i None
   unfolding Reads field_if bind
-  reads-no-name e f z = opened ∙ rw (name-bit (get_or s i 0) e) (rw (f.missing z) refl)
+  reads-no-name e f = opened ∙ rw (name-bit (get_or s i 0) e) (rw f refl)

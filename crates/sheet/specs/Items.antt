@@ -2,7 +2,7 @@
 use Rattle.std.proofs.Math.Path.{◌≡◌, ap}
 use Rattle.std.specs.Prelude.{refl, List, [], ◌∷◌, ◌++◌, ℕ, ◌+◌, ◌-◌, ◌/◌, ◌≤◌, ◌<◌, length}
 use Rattle.std.proofs.Common.{sym, ◌∙◌, append_assoc, arith}
-use Rattle.std.proofs.Math.Option.{Option, none, some}
+use Rattle.std.proofs.Math.Option.{Option, some}
 use Rattle.std.proofs.Math.ListN.{drop}
 use Rattle.scan.specs.Sets.{part}
 use Rattle.rules.specs.Layout.{bind, ◌>>=◌, pure, byte}
@@ -10,8 +10,7 @@ use Rattle.rules.specs.Sheet.{Value, text, nothing, dictionary, Records, end, re
 use Rattle.rules.proofs.Laws.Sheet.{word16-read, field-read, map-byte, name-read, count-le}
 use Rattle.sheet.specs.Parts.{Part, slice-part, part_of}
 use Rattle.sheet.specs.Heads.{Shape, plain, absent, holding, shape_kind, shape_text, shape_count, shape, head, IsItem, Reads}
-use Rattle.sheet.specs.declared.head.Head.{Head}
-use Rattle.sheet.specs.declared.head.Head.TheVariants.{Bad, Record}
+use Rattle.std.specs.Prelude.{Option as RustOption, Some, None, IsSome}
 use Rattle.sheet.specs.declared.head.Item.{Item}
 
 -- What a head says of a value, and the records that the value holds.
@@ -70,7 +69,7 @@ pub record At (s : List ℕ) (i : ℕ) : Type 0 where
 -- The item o tells of the record of a name n and a value v, behind which r stands up to j.
 pub record Describes (s : List ℕ) (i : ℕ) (n : List ℕ) (v : Value) (r : Records) (j : ℕ) (o : Item) : Type 0 where
   pub on : i < o.next
-  pub name : Part s o.from n o.to
+  pub name : Part s o.name.from n o.name.to
   pub sort : o.kind ≡ shape_kind (lead v)
   pub text : Part s o.at (shape_text (lead v)) o.next
   pub number : o.count ≡ count (inner v)
@@ -91,21 +90,19 @@ module _ {s : List ℕ} {i : ℕ} (n : List ℕ) (v : Value) (r : Records) {j : 
   here : head (drop i s) ≡ some ((n, lead v), encode (join (inner v) r) ++ drop j s)
   here = ap head p.bytes ∙ head-back n v r (drop j s)
 
-  pub not_bad : {P : Type 0} {h : Head} → Reads s i h → h ≡ Bad → P
+  pub is_there : (h : RustOption Item) → Reads s i h → IsSome h
   unfolding Reads
-  not_bad {h = h} w e =
-      let b : head (drop i s) ≡ none = rw e at w in
-      let z : ◌≡◌ {A = ℕ} 0 1 = cc here in
-      absurd (omega arith)
+  is_there None w = let z : ◌≡◌ {A = ℕ} 0 1 = cc here in absurd (omega arith)
+  is_there (Some o) w = refl
 
-  pub told : {h : Head} (o : Item) → Reads s i h → h ≡ Record o → Describes s i n v r j o
+  pub told : {h : RustOption Item} (o : Item) → Reads s i h → h ≡ Some o → Describes s i n v r j o
   unfolding Reads
   told o w₀ e =
       let w : IsItem s i o = rw e at w₀ in
-      let q = heads_same (part s o.from o.to) n w.v (lead v) (drop o.next s) (encode (join (inner v) r) ++ drop j s) (sym w.is ∙ here) in
+      let q = heads_same (part s o.name.from o.name.to) n w.v (lead v) (drop o.next s) (encode (join (inner v) r) ++ drop j s) (sym w.is ∙ here) in
       record {
         on = omega (arith, w.past, w.name, w.behind, w.on);
-        name = rw q.0 at (slice-part s o.from o.to w.name (omega (arith, w.behind, w.on, w.inside)));
+        name = rw q.0 at (slice-part s o.name.from o.name.to w.name (omega (arith, w.behind, w.on, w.inside)));
         sort = w.sort ∙ ap shape_kind q.1;
         text = rw (w.text ∙ ap shape_text q.1) at (slice-part s o.at o.next w.on w.inside);
         number = w.number ∙ ap shape_count q.1 ∙ count-inner v;

@@ -15,9 +15,11 @@ use Rattle.scan.specs.Laws.{but-yes, but-no}
 use Rattle.scan.specs.Stretches.{span-took, spans-stop}
 use Rattle.sheet.specs.Parts.{slice-part}
 use Rattle.sheet.specs.Order.{underscored_if, underscored_if-length, underscored_if-slice, underscored_if_dot, underscored_if_get_d, underscore_if_dot}
-use Rattle.sheet.specs.Find.{Gives, Level}
+use Rattle.sheet.specs.Find.{Tells, Gives, Level}
+use Rattle.std.specs.Prelude.{Option as RustOption, Some, None}
+use Rattle.scan.specs.declared.Range.{Range}
 use Rattle.sheet.specs.declared.lookup.Found.{Found}
-use Rattle.sheet.specs.declared.lookup.Found.TheVariants.{Missing, None, Text, Dictionary}
+use Rattle.sheet.specs.declared.lookup.Found.TheVariants.{Nothing, Text, Dictionary}
 
 -- From p up to q there is no `.`, and at q there is one or the end.
 pub record UpToDot (t : List ℕ) (p q : ℕ) : Type 0 where
@@ -140,7 +142,7 @@ module _ {s : List ℕ} {at e p q : ℕ} {r : Records} (b : Bool) (path : List �
   u : UpToDot (underscored_if b path) p q
   u = dot_underscored_if b path u₀
 
-  pub walk-last : (f : Found) → q ≡ length path → Gives s (get w.level.r (underscored_if b (part path p q))) f → Gives s (resolve r (underscored_if b path)) f
+  pub walk-last : (f : RustOption Found) → q ≡ length path → Gives s (get w.level.r (underscored_if b (part path p q))) f → Gives s (resolve r (underscored_if b path)) f
   walk-last f h g =
       let i : resolve r (underscored_if b path) ≡ get w.level.r (underscored_if b (part path p q)) = w.same ∙ ap (get_pieces w.level.r) (pieces-last u (omega (arith, underscored_if-length b path))) ∙ pieces-one w.level.r (part (underscored_if b path) p q) ∙ ap (get w.level.r) (sym (underscored_if-slice b p q path)) in
       subst (λ z. Gives s z f) (sym i) g
@@ -149,19 +151,27 @@ module _ {s : List ℕ} {at e p q : ℕ} {r : Records} (b : Bool) (path : List �
     more : resolve r (underscored_if b path) ≡ get_pieces w.level.r (underscored_if b (part path p q) ∷ split "." (drop (q + 1) (underscored_if b path)))
     more = w.same ∙ ap (get_pieces w.level.r) (pieces_dot u (omega (arith, underscored_if-length b path)) ∙ ap (λ z. z ∷ split "." (drop (q + 1) (underscored_if b path))) (sym (underscored_if-slice b p q path)))
 
-    pub walk-stop : (f : Found) → ((a c n : ℕ) → f ≡ Dictionary a c n → ⊥) → Gives s (get w.level.r (underscored_if b (part path p q))) f → Gives s (resolve r (underscored_if b path)) Missing
+    pub walk-missing : Gives s (get w.level.r (underscored_if b (part path p q))) None → Gives s (resolve r (underscored_if b path)) None
     unfolding Gives
-    walk-stop Missing y g = more ∙ pieces-missing _ (split-full (drop (q + 1) (underscored_if b path))) w.level.r (underscored_if b (part path p q)) g
-    walk-stop None y g = more ∙ pieces_none _ (split-full (drop (q + 1) (underscored_if b path))) w.level.r (underscored_if b (part path p q)) g
-    walk-stop (Text a c) y g = more ∙ pieces-text _ (split-full (drop (q + 1) (underscored_if b path))) w.level.r (underscored_if b (part path p q)) g.0 g.1
-    walk-stop (Dictionary a c n) y g = absurd (y a c n refl)
+    walk-missing g = more ∙ pieces-missing _ (split-full (drop (q + 1) (underscored_if b path))) w.level.r (underscored_if b (part path p q)) g
 
-    pub walk-on : (f : Found) {a c n : ℕ} → f ≡ (Dictionary a c n) → Gives s (get w.level.r (underscored_if b (part path p q))) f → Walking s a c (q + 1) r (underscored_if b path)
-    unfolding Gives
-    walk-on f {a} {c} {n} y g₀ =
-        let g = subst (λ z. Gives s (get w.level.r (underscored_if b (part path p q))) z) y g₀ in
-        let o = dictionary-good g.0 w.level.l (get-good w.level.r w.level.p w.level.l (underscored_if b (part path p q)) (dictionary g.0) w.level.good g.1) in
-        record {
-          level = record { r = g.0; p = name_byte; l = o.0; part = g.2; good = o.1 };
-          same = more ∙ pieces-dictionary _ (split-full (drop (q + 1) (underscored_if b path))) w.level.r (underscored_if b (part path p q)) g.0 g.1;
-        }
+    module _ (f : Found) (g : Gives s (get w.level.r (underscored_if b (part path p q))) (Some f)) where
+      pub walk-stop : ((a : Range) (n : ℕ) → f ≡ Dictionary a n → ⊥) → Gives s (resolve r (underscored_if b path)) None
+      unfolding Tells Gives
+      walk-stop y = go f g.2 y
+        where
+          go : (f : Found) → Tells s g.0 f → ((a : Range) (n : ℕ) → f ≡ Dictionary a n → ⊥) → Gives s (resolve r (underscored_if b path)) None
+          go Nothing t z = more ∙ pieces_none _ (split-full (drop (q + 1) (underscored_if b path))) w.level.r (underscored_if b (part path p q)) (g.1 ∙ ap some t)
+          go (Text a) t z = more ∙ pieces-text _ (split-full (drop (q + 1) (underscored_if b path))) w.level.r (underscored_if b (part path p q)) t.0 (g.1 ∙ ap some t.1)
+          go (Dictionary a n) t z = absurd (z a n refl)
+
+      pub walk-on : {a : Range} {n : ℕ} → f ≡ Dictionary a n → Walking s a.from a.to (q + 1) r (underscored_if b path)
+      unfolding Tells Gives
+      walk-on {a} {n} y =
+          let t : Tells s g.0 (Dictionary a n) = rw y at g.2 in
+          let h : get w.level.r (underscored_if b (part path p q)) ≡ some (dictionary t.0) = g.1 ∙ ap some t.1 in
+          let o = dictionary-good t.0 w.level.l (get-good w.level.r w.level.p w.level.l (underscored_if b (part path p q)) (dictionary t.0) w.level.good h) in
+          record {
+            level = record { r = t.0; p = name_byte; l = o.0; part = t.2; good = o.1 };
+            same = more ∙ pieces-dictionary _ (split-full (drop (q + 1) (underscored_if b path))) w.level.r (underscored_if b (part path p q)) t.0 h;
+          }

@@ -1,16 +1,14 @@
 -- For callers: a sheet that was checked is the bytes of good records.
 use Rattle.std.specs.Prelude.{◌≡◌, refl, true, List, [], ◌∷◌, ℕ, suc, ◌≤◌, ◌<◌, ltb, length, get_or}
 use Rattle.std.proofs.Common.{sym}
-use Rattle.std.proofs.Math.Option.{Option, some}
+use Rattle.std.proofs.Math.Option.{some}
 use Rattle.rules.specs.Reader.{all}
 use Rattle.rules.specs.Bytes.{is_byte, word}
-use Rattle.rules.specs.Sheet.{Value, text, nothing, dictionary, Records, encode, good_records, sheet_of}
+use Rattle.rules.specs.Sheet.{Records, encode, good_records, sheet_of}
 use Rattle.rules.specs.Answer.{is_some}
 use Rattle.rules.proofs.Laws.Bool.{and_i, ltb-true, true-some}
 use Rattle.rules.proofs.Laws.Sheet.{sheet-good, sheet_canonical}
-use Rattle.sheet.specs.Find.{IsSheet, Gives}
-use Rattle.sheet.specs.declared.lookup.Found.{Found}
-use Rattle.sheet.specs.declared.lookup.Found.TheVariants.{Missing, None, Text, Dictionary}
+use Rattle.sheet.specs.Find.{IsSheet}
 
 -- A list whose elements are bytes, as the list of a slice is.
 pub all-bytes : (b : List ℕ) → ((i : ℕ) → get_or b i 0 < 256) → all is_byte b ≡ true
@@ -42,11 +40,3 @@ known s b h = checked s (all-bytes s b) h
 
 pub is-sheet : (s : List ℕ) → ((i : ℕ) → get_or s i 0 < 256) → is_some (sheet_of s) ≡ true → IsSheet s
 is-sheet s b h = to_look (known s b h)
-
--- What a lookup gave, where nothing is missing.
-pub found-there : (s : List ℕ) (x : Option Value) (f : Found) → Gives s x f → (f ≡ Missing → ⊥) → (v : Value) × (x ≡ some v) × Gives s (some v) f
-unfolding Gives
-found-there s x Missing g h = absurd (h refl)
-found-there s x None g h = (nothing, g, refl)
-found-there s x (Text a b) g h = (text g.0, g.1, (g.0, refl, g.2))
-found-there s x (Dictionary a b n) g h = (dictionary g.0, g.1, (g.0, refl, g.2, g.3))

@@ -2,6 +2,8 @@
 ghost use Rattle.std.specs.Prelude.{◌≡◌, true, ◌+◌, ◌≤◌, length};
 ghost use Rattle.sheet.specs.Heads.{word_at, good_map, IsField, ValueReads, Reads};
 
+use scan::Range;
+
 // The bits of a map byte: a name; a text, a dictionary or none.
 pub const NAME: u8 = 1;
 
@@ -16,22 +18,23 @@ pub const BINDING: u8 = NAME | TEXT | DICTIONARY | NONE;
 
 pub const ENTRY: u8 = NAME | TEXT | DICTIONARY | NONE;
 
-// A record: its name, its value's kind (1 none, 2 text, 3 dictionary), its text, and where the next record begins. Of a
-// dictionary `count` records of its own begin there.
-#[derive(Clone, Copy)]
+// What a record's value is.
+#[derive(Clone, Copy, Debug, PartialEq, Eq)]
+pub enum Kind {
+    Nothing,
+    Text,
+    Dictionary,
+}
+
+// A record: its name, its value's kind, its text from `at` up to `next`, and there the next record. Of a dictionary `count` records of its own begin
+// there. A walk asks every record for `next` and `count`, so they stand beside the kind and not in it.
+#[derive(Clone, Copy, Debug, PartialEq, Eq)]
 pub struct Item {
-    pub from: usize,
-    pub to: usize,
-    pub kind: u8,
+    pub name: Range,
+    pub kind: Kind,
     pub at: usize,
     pub next: usize,
     pub count: usize,
-}
-
-#[derive(Clone, Copy)]
-pub enum Head {
-    Bad,
-    Record(Item),
 }
 
 // A 16-bit number, low byte first.
@@ -39,7 +42,7 @@ fn word(s: &[u8], at: usize) -> usize
     requires { at + 2 ≤ length s.now }
     ensures { result ≡ word_at s.now at }
 {
-    (s[at] as usize) + 256 * (s[at + 1] as usize)
+    usize::from(u16::from_le_bytes([s[at], s[at + 1]]))
 }
 
 // Does the map byte hold only bits of the mask, and at most one of a value? The mask says which bits a record of its level may have: `BINDING` or
@@ -52,90 +55,98 @@ fn allowed(m: u8, mask: u8) -> bool
     (m & mask == m) & ((k == 0) | (k == TEXT) | (k == DICTIONARY) | (k == NONE))
 }
 
-// The length of the field at a place, or 0 where it breaks the layout.
-fn field(s: &[u8], at: usize) -> usize
+// Where the text of the field at a place stands, unless the field breaks the layout.
+fn field(s: &[u8], at: usize) -> Option<Range>
     requires { at ≤ length s.now }
     ensures { IsField s.now at result }
 {
     if s.len() - at < 2 {
-        return 0;
+        return None;
     }
     let n = word(s, at);
-    if s.len() - at - 2 < n {
-        return 0;
+    if n == 0 {
+        return None;
     }
-    n
+    if s.len() - at - 2 < n {
+        return None;
+    }
+    Some(Range {
+        from: at + 2,
+        to: at + 2 + n,
+    })
 }
 
-// The record of a text that stands behind the name from a place to another.
-fn text_head(s: &[u8], from: usize, to: usize) -> Head
-    requires { to ≤ length s.now }
-    ensures { ValueReads s.now 2 from to result }
+// The record of a text that stands behind the name.
+fn text_head(s: &[u8], name: Range) -> Option<Item>
+    requires { name.to ≤ length s.now }
+    ensures { ValueReads s.now 2 name result }
 {
-    let k = field(s, to);
-    if k == 0 {
-        return Head::Bad;
-    }
-    Head::Record(Item {
-        from: from,
-        to: to,
-        kind: 2,
-        at: to + 2,
-        next: to + 2 + k,
+    let text = field(s, name.to)?;
+    Some(Item {
+        name,
+        kind: Kind::Text,
+        at: text.from,
+        next: text.to,
         count: 0,
     })
 }
 
-// The record with the map byte m and the name from a place to another, its value behind that.
-fn value_head(s: &[u8], m: u8, from: usize, to: usize) -> Head
-    requires { (to ≤ length s.now) × (good_map m ≡ true) }
-    ensures { ValueReads s.now m from to result }
+// The record with the map byte m and this name, its value behind that.
+fn value_head(s: &[u8], m: u8, name: Range) -> Option<Item>
+    requires { (name.to ≤ length s.now) × (good_map m ≡ true) }
+    ensures { ValueReads s.now m name result }
 {
     if m & TEXT != 0 {
-        return text_head(s, from, to);
+        return text_head(s, name);
     }
     if m & DICTIONARY != 0 {
-        if s.len() - to < 2 {
-            return Head::Bad;
+        if s.len() - name.to < 2 {
+            return None;
         }
-        return Head::Record(Item {
-            from: from,
-            to: to,
-            kind: 3,
-            at: to + 2,
-            next: to + 2,
-            count: word(s, to),
+        return Some(Item {
+            name,
+            kind: Kind::Dictionary,
+            at: name.to + 2,
+            next: name.to + 2,
+            count: word(s, name.to),
         });
     }
-    let kind = if m & NONE != 0 { 1 } else { 2 };
-    Head::Record(Item {
-        from: from,
-        to: to,
-        kind: kind,
-        at: to,
-        next: to,
+    let kind = if m & NONE != 0 {
+        Kind::Nothing
+    } else {
+        Kind::Text
+    };
+    Some(Item {
+        name,
+        kind,
+        at: name.to,
+        next: name.to,
         count: 0,
     })
 }
 
-// Reads the record at a place.
-pub fn read(s: &[u8], i: usize, mask: u8) -> Head
+// Reads the record at a place, unless it breaks the layout.
+pub fn read(s: &[u8], i: usize, mask: u8) -> Option<Item>
     requires { mask ≡ 15 }
     ensures { Reads s.now i result }
 {
     if s.len() <= i {
-        return Head::Bad;
+        return None;
     }
     let m = s[i];
     if !allowed(m, mask) {
-        return Head::Bad;
+        return None;
     }
     if m & NAME == 0 {
-        return value_head(s, m, i + 1, i + 1);
+        return value_head(
+            s,
+            m,
+            Range {
+                from: i + 1,
+                to: i + 1,
+            },
+        );
     }
-    let n = field(s, i + 1);
-    if n == 0 {
-        return Head::Bad;
-    }
-    value_head(s, m, i + 3, i + 3 + n)
+    let name = field(s, i + 1)?;
+    value_head(s, m, name)
 }

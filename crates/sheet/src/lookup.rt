@@ -1,30 +1,25 @@
 // Lookup: a walk over the records of a level, then into a dictionary.
 ghost use Rattle.std.specs.Prelude.{◌≡◌, true, List, ℕ};
+ghost use Rattle.std.specs.Ordering.{nat_cmp};
+ghost use Rattle.std.specs.Cmp.Lexicographic.{slice_cmp};
 ghost use Rattle.std.proofs.Math.Option.{Option, some};
 ghost use Rattle.rules.specs.Bytes.{word};
 ghost use Rattle.rules.specs.Sheet.{Value, Records, rec, encode, count, good_records, get, resolve, text_of};
 ghost use Rattle.sheet.specs.Parts.{Part};
 ghost use Rattle.sheet.specs.Items.{At, Describes, Holding, Has};
-ghost use Rattle.sheet.specs.Order.{underscore_if, underscored_if, order_of};
-ghost use Rattle.sheet.specs.Find.{HasRecords};
-ghost use Rattle.sheet.specs.Find.{Gives, Places, Body, HasBody, Level, IsSheet};
+ghost use Rattle.sheet.specs.Order.{underscore_if, underscored_if};
+ghost use Rattle.sheet.specs.Find.{HasRecords, Tells, Gives, Places, Body, HasBody, Level, IsSheet};
 
-use crate::head::{BINDING, ENTRY, Head, Item, read};
+use crate::head::{BINDING, ENTRY, Item, Kind, read};
+use scan::Range;
+use std::cmp::Ordering;
 
-// What a lookup finds, with its place in the sheet.
-#[derive(Clone, Copy)]
+// A value that a lookup found, with its place in the sheet.
+#[derive(Clone, Copy, Debug, PartialEq, Eq)]
 pub enum Found {
-    Missing,
-    None,
-    Text {
-        from: usize,
-        to: usize,
-    },
-    Dictionary {
-        from: usize,
-        to: usize,
-        count: usize,
-    },
+    Nothing,
+    Text(Range),
+    Dictionary { records: Range, count: usize },
 }
 
 // The record at a place where there is one.
@@ -32,17 +27,7 @@ pub fn item(s: &[u8], i: usize) -> Item
     requires { At s.now i }
     ensures { (n : List ℕ) (v : Value) (r : Records) (j : ℕ) → Part s.now i (encode (rec n v r)) j → Describes s.now i n v r j result }
 {
-    let Head::Record(o) = read(s, i, BINDING | ENTRY) else {
-        return Item {
-            from: i,
-            to: i,
-            kind: 0,
-            at: i,
-            next: i,
-            count: 0,
-        };
-    };
-    o
+    read(s, i, BINDING | ENTRY).unwrap()
 }
 
 // The place behind so many records from a place on, with all that they hold.
@@ -79,124 +64,92 @@ pub fn count(s: &[u8]) -> usize
 pub fn underscored_if(reference: bool, x: u8) -> u8
     ensures { result ≡ underscore_if reference x }
 {
-    if reference {
-        if x == b'-' {
-            return b'_';
-        }
-    }
-    x
+    if reference & (x == b'-') { b'_' } else { x }
 }
 
-// The order of a name and of one that is asked for: 0 less, 1 equal, 2 greater.
-pub fn order(a: &[u8], b: &[u8], reference: bool) -> u8
-    ensures { result ≡ order_of a.now (underscored_if reference b.now) }
+// The order of a name and of one that is asked for.
+pub fn order(a: &[u8], b: &[u8], reference: bool) -> Ordering
+    ensures { result ≡ slice_cmp nat_cmp a.now (underscored_if reference b.now) }
 {
-    let mut i: usize = 0;
-    while i < a.len() {
-        if b.len() <= i {
-            return 2;
+    for (x, y) in a.iter().zip(b) {
+        let o = x.cmp(&underscored_if(reference, *y));
+        if o.is_ne() {
+            return o;
         }
-        let y = underscored_if(reference, b[i]);
-        if a[i] < y {
-            return 0;
-        }
-        if y < a[i] {
-            return 2;
-        }
-        i += 1;
     }
-    if i < b.len() {
-        return 0;
-    }
-    1
+    a.len().cmp(&b.len())
 }
 
 // The value of a record.
 pub fn value(s: &[u8], o: Item) -> Found
     requires { HasBody s.now o }
-    ensures { (v : Value) → Body s.now v o → Gives s.now (some v) result }
+    ensures { (v : Value) → Body s.now v o → Tells s.now v result }
 {
-    if o.kind == 1 {
-        return Found::None;
-    }
-    if o.kind == 3 {
-        let end = skip(s, o.next, o.count);
-        return Found::Dictionary {
-            from: o.next,
-            to: end,
+    match o.kind {
+        Kind::Nothing => Found::Nothing,
+        Kind::Text => Found::Text(Range {
+            from: o.at,
+            to: o.next,
+        }),
+        Kind::Dictionary => Found::Dictionary {
+            records: Range {
+                from: o.next,
+                to: skip(s, o.next, o.count),
+            },
             count: o.count,
-        };
-    }
-    Found::Text {
-        from: o.at,
-        to: o.next,
+        },
     }
 }
 
-// Looks a name up among the records from a place to another; the order of names ends the walk.
-pub fn find(s: &[u8], at: usize, end: usize, name: &[u8], reference: bool) -> Found
-    requires { Level s.now at end }
-    ensures { (l : Level s.now at end) → Gives s.now (get l.r (underscored_if reference name.now)) result }
+// Looks a name up among the records of a level; the order of names ends the walk.
+pub fn find(s: &[u8], level: Range, name: &[u8], reference: bool) -> Option<Found>
+    requires { Level s.now level.from level.to }
+    ensures { (l : Level s.now level.from level.to) → Gives s.now (get l.r (underscored_if reference name.now)) result }
 {
-    let mut i = at;
-    while i < end {
+    let mut i = level.from;
+    while i < level.to {
         let o = item(s, i);
-        let from = o.from;
-        let to = o.to;
-        let c = order(&s[from..to], name, reference);
-        if c == 1 {
-            return value(s, o);
+        match order(&s[o.name.from..o.name.to], name, reference) {
+            Ordering::Less => i = skip(s, o.next, o.count),
+            Ordering::Equal => return Some(value(s, o)),
+            Ordering::Greater => return None,
         }
-        if c == 2 {
-            return Found::Missing;
-        }
-        i = skip(s, o.next, o.count);
     }
-    Found::Missing
+    None
 }
 
 // Looks a path up: a binding, then keys, parted by `.`.
-pub fn lookup(s: &[u8], path: &[u8], reference: bool) -> Found
+pub fn lookup(s: &[u8], path: &[u8], reference: bool) -> Option<Found>
     requires { IsSheet s.now }
     ensures { (r : Records) → s.now ≡ encode r → good_records r word 6 ≡ true → Gives s.now (resolve r (underscored_if reference path.now)) result }
 {
-    let mut at: usize = 0;
-    let mut end = s.len();
+    let mut level = Range {
+        from: 0,
+        to: s.len(),
+    };
     let mut p: usize = 0;
     loop {
         let q = scan::span(path, p, scan::Set::NotDot);
-        let f = find(s, at, end, &path[p..q], reference);
+        let f = find(s, level, &path[p..q], reference);
         if q == path.len() {
             return f;
         }
-        let Found::Dictionary { from, to, count: _ } = f else {
-            return Found::Missing;
+        let Found::Dictionary { records, .. } = f? else {
+            return None;
         };
-        at = from;
-        end = to;
+        level = records;
         p = q + 1;
     }
 }
 
-// A part of a sheet.
-#[derive(Clone, Copy)]
-pub struct Place {
-    pub from: usize,
-    pub to: usize,
-}
-
 // Where the text stands that a lookup found; an empty part where it found none (E1).
-pub fn text_place(found: Found) -> Place
+pub fn text_place(found: Option<Found>) -> Range
     ensures { (s : List ℕ) (x : Option Value) → Gives s x found → Places s (text_of x) result.from result.to }
 {
     match found {
-        Found::Text { from, to } => Place { from: from, to: to },
-        Found::Missing => Place { from: 0, to: 0 },
-        Found::None => Place { from: 0, to: 0 },
-        Found::Dictionary {
-            from: _,
-            to: _,
-            count: _,
-        } => Place { from: 0, to: 0 },
+        Some(Found::Text(text)) => text,
+        Some(Found::Dictionary { .. }) => Range { from: 0, to: 0 },
+        Some(Found::Nothing) => Range { from: 0, to: 0 },
+        None => Range { from: 0, to: 0 },
     }
 }

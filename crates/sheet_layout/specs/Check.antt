@@ -1,7 +1,7 @@
 -- The layout check: reading and testing in one go, which is what `sheet_of` says.
 use Rattle.std.specs.Prelude.{◌≡◌, Bool, ◌&&◌, eqb, leb, length, get_or}
 use Rattle.std.proofs.Math.Path.{refl, sym, ap}
-use Rattle.std.proofs.Common.{◌∙◌, drop_of_length-le, drop-cons, ne_eqb, le-leb}
+use Rattle.std.proofs.Common.{◌∙◌, drop_of_length-le, drop-cons, le-leb}
 use Rattle.std.proofs.Math.Bool.{true, false}
 use mathlib.Core.List.{List, [], ◌∷◌}
 use Rattle.std.proofs.Math.Option.{Option, none, some}
@@ -17,13 +17,15 @@ use Rattle.rules.specs.Sheet.{Value, text, nothing, dictionary, Records, end, re
 use Rattle.rules.specs.Answer.{is_some}
 use Rattle.rules.proofs.Laws.Bool.{and_l, and_r, and_i}
 use Rattle.sheet.specs.Heads.{Shape, plain, absent, holding, shape_kind, shape_text, shape_count, shape, head, IsItem, Reads}
-use Rattle.sheet.specs.Order.{order_of, underscored_if, order-less}
-use Rattle.sheet.specs.declared.head.Head.{Head}
-use Rattle.sheet.specs.declared.head.Head.TheVariants.{Bad as Broken, Record}
+use Rattle.std.specs.declared.cmp.Ordering.{Ordering}
+use Rattle.std.specs.Ordering.{nat_cmp, is_lt}
+use Rattle.std.specs.Cmp.Lexicographic.{slice_cmp}
+use Rattle.sheet.specs.Order.{underscored_if, order-less}
+use Rattle.std.specs.Prelude.{Option as RustOption, Some, None}
+use Rattle.scan.specs.declared.Range.{Range}
+use Rattle.sheet.specs.declared.head.Kind.{Kind}
+use Rattle.sheet.specs.declared.head.Kind.TheVariants.{Nothing, Text, Dictionary}
 use Rattle.sheet.specs.declared.head.Item.{Item}
-use Rattle.sheet_layout.specs.declared.Ends.{Ends}
-use Rattle.sheet_layout.specs.declared.Ends.TheVariants.{Bad, At}
-use Rattle.sheet_layout.specs.declared.Last.{Last}
 
 -- a, if the test holds.
 unfoldable pub guard : {A : Type 0} → Bool → A → Option A
@@ -49,8 +51,10 @@ good_head p l b = bind (head b) (λ x. guard (suits p l x.0.0 (shape_text x.0.1)
 
 -- Reading records, tested: the bytes behind them. `inner` reads those of a dictionary.
 module _ (inner : ℕ → List ℕ → Option (List ℕ)) where
-  unfoldable pub body : ℕ → ℕ → List ℕ → Option (List ℕ)
-  body kind n b = elim (eqb kind 3) [ true ↦ inner n b | false ↦ some b ]
+  unfoldable pub body : Kind → ℕ → List ℕ → Option (List ℕ)
+  body Nothing n b = some b
+  body Text n b = some b
+  body Dictionary n b = inner n b
 
   unfoldable pub one : (ℕ → Bool) → Option (List ℕ) → List ℕ → Option (List ℕ × List ℕ)
   one p l b = bind (good_head p l b) (λ x. bind (body (shape_kind x.0.1) (shape_count x.0.1) x.1) (λ c. some (x.0.0, c)))
@@ -73,31 +77,32 @@ within (suc l) n b = run (within l) name_byte n none b
 -- CONTRACTS.
 -- The item's places lie in the sheet; so do those of the last name.
 pub record InSheet (s : List ℕ) (o : Item) : Type 0 where
-  pub name : o.from ≤ o.to
-  pub behind : o.to ≤ o.at
+  pub name : o.name.from ≤ o.name.to
+  pub behind : o.name.to ≤ o.at
   pub on : o.at ≤ o.next
   pub inside : o.next ≤ length s
 
-pub record InLast (s : List ℕ) (l : Last) : Type 0 where
-  pub on : l.from ≤ l.to
-  pub inside : l.to ≤ length s
+abbrev pub InLast : List ℕ → RustOption Range → Type 0
+InLast s None = Unit {0}
+InLast s (Some l) = (l.from ≤ l.to) × (l.to ≤ length s)
 
 -- The last name.
-unfoldable pub last_in : List ℕ → Last → Option (List ℕ)
-last_in s l = guard l.known (part s l.from l.to)
+unfoldable pub last_in : List ℕ → RustOption Range → Option (List ℕ)
+last_in s None = none
+last_in s (Some l) = some (part s l.from l.to)
 
 unfoldable pub keeps_rules : (ℕ → Bool) → Option (List ℕ) → List ℕ → Item → Bool
-keeps_rules p l s o = suits p l (part s o.from o.to) (part s o.at o.next)
+keeps_rules p l s o = suits p l (part s o.name.from o.name.to) (part s o.at o.next)
 
 -- h is the head at i, if that suits.
-unfoldable pub Enters : List ℕ → ℕ → (ℕ → Bool) → Option (List ℕ) → Head → Type 0
-Enters s i p l Broken = good_head p l (drop i s) ≡ none
-Enters s i p l (Record o) = IsItem s i o × (good_head p l (drop i s) ≡ head (drop i s))
+unfoldable pub Enters : List ℕ → ℕ → (ℕ → Bool) → Option (List ℕ) → RustOption Item → Type 0
+Enters s i p l None = good_head p l (drop i s) ≡ none
+Enters s i p l (Some o) = IsItem s i o × (good_head p l (drop i s) ≡ head (drop i s))
 
 -- What is left where r says.
-unfoldable pub EndsAt : List ℕ → ℕ → Option (List ℕ) → Ends → Type 0
-EndsAt s i x Bad = x ≡ none
-EndsAt s i x (At j) = (i ≤ j) × (j ≤ length s) × (x ≡ some (drop j s))
+unfoldable pub EndsAt : List ℕ → ℕ → Option (List ℕ) → RustOption ℕ → Type 0
+EndsAt s i x None = x ≡ none
+EndsAt s i x (Some j) = (i ≤ j) × (j ≤ length s) × (x ≡ some (drop j s))
 
 -- BOOLEANS.
 bool_eq : (a b : Bool) → (a ≡ true → b ≡ true) → (b ≡ true → a ≡ true) → a ≡ b
@@ -369,78 +374,74 @@ unfolding sheet_of
 check-long b h = sym (long-is b (decode b) h)
 
 -- THE CODE'S STEPS.
-module _ (p : ℕ → Bool) (s : List ℕ) (o : Item) (last : Last) where
-  pub fits-name : all p (part s o.from o.to) ≡ false → false ≡ keeps_rules p (last_in s last) s o
+module _ (p : ℕ → Bool) (s : List ℕ) (o : Item) (last : RustOption Range) where
+  pub fits-name : all p (part s o.name.from o.name.to) ≡ false → false ≡ keeps_rules p (last_in s last) s o
   unfolding keeps_rules suits
   fits-name h = rw h refl
 
-  module _ (h : all p (part s o.from o.to) ≡ true) where
+  module _ (h : all p (part s o.name.from o.name.to) ≡ true) where
     pub fits-text : all ascii (part s o.at o.next) ≡ false → false ≡ keeps_rules p (last_in s last) s o
     unfolding keeps_rules suits
     fits-text k = rw (h, k) refl
 
     module _ (k : all ascii (part s o.at o.next) ≡ true) where
-      pub fits-first : last.known ≡ false → true ≡ keeps_rules p (last_in s last) s o
-      unfolding keeps_rules suits last_in guard follows
+      pub fits-first : last ≡ None → true ≡ keeps_rules p (last_in s last) s o
+      unfolding keeps_rules suits last_in follows
       fits-first e = rw (h, k, e) refl
 
-      pub fits-order : last.known ≡ true → {c : ℕ} → c ≡ order_of (part s last.from last.to) (underscored_if false (part s o.from o.to)) → eqb c 0 ≡ keeps_rules p (last_in s last) s o
-      unfolding keeps_rules suits last_in guard follows underscored_if
-      fits-order e f = rw (h, k, e, f) (sym (order-less (part s last.from last.to) (part s o.from o.to)).0)
+      pub fits-order : {l : Range} → last ≡ Some l → {c : Ordering} → c ≡ slice_cmp nat_cmp (part s l.from l.to) (underscored_if false (part s o.name.from o.name.to)) → is_lt c ≡ keeps_rules p (last_in s last) s o
+      unfolding keeps_rules suits last_in follows underscored_if
+      fits-order {l} e f = rw (h, k, e, f) (sym (order-less (part s l.from l.to) (part s o.name.from o.name.to)).0)
 
-pub in-sheet : (s : List ℕ) (i : ℕ) {h : Head} {o : Item} → Reads s i h → h ≡ Record o → InSheet s o
+pub in-sheet : (s : List ℕ) (i : ℕ) (o : Item) → Reads s i (Some o) → InSheet s o
 unfolding Reads
-in-sheet s i {h} {o} r e =
-    let w : IsItem s i o = rw e at r in
-    record { name = w.name; behind = w.behind; on = w.on; inside = w.inside }
+in-sheet s i o w = record { name = w.name; behind = w.behind; on = w.on; inside = w.inside }
 
-module _ (s : List ℕ) (i : ℕ) {h : Head} (r : Reads s i h) (p : ℕ → Bool) (l : Option (List ℕ)) where
-  pub enters-broken : h ≡ Broken → Enters s i p l Broken
+module _ (s : List ℕ) (i : ℕ) (p : ℕ → Bool) (l : Option (List ℕ)) where
+  pub enters-broken : Reads s i None → Enters s i p l None
   unfolding Reads Enters good_head bind
-  enters-broken e = let w : head (drop i s) ≡ none = rw e at r in rw w refl
+  enters-broken w = rw w refl
 
-  module _ (o : Item) (e : h ≡ Record o) where
+  module _ (o : Item) (r : Reads s i (Some o)) where
     there : IsItem s i o
     unfolding Reads
-    there = rw e at r
+    there = r
 
-    tested : (c : Bool) → keeps_rules p l s o ≡ c → good_head p l (drop i s) ≡ guard c ((part s o.from o.to, there.v), drop o.next s)
+    tested : (c : Bool) → keeps_rules p l s o ≡ c → good_head p l (drop i s) ≡ guard c ((part s o.name.from o.name.to, there.v), drop o.next s)
     unfolding good_head keeps_rules bind
     tested c q = rw there.is (rw (← there.text, q) refl)
 
-    pub enters-in : keeps_rules p l s o ≡ true → Enters s i p l (Record o)
+    pub enters-in : keeps_rules p l s o ≡ true → Enters s i p l (Some o)
     unfolding Enters guard bind
     enters-in q = (there, tested true q ∙ sym there.is)
 
-    pub enters-not : keeps_rules p l s o ≡ false → Enters s i p l Broken
+    pub enters-not : keeps_rules p l s o ≡ false → Enters s i p l None
     unfolding Enters guard bind
     enters-not q = tested false q
 
-module _ (inner : ℕ → List ℕ → Option (List ℕ)) (p : ℕ → Bool) (l : Option (List ℕ)) (s : List ℕ) (i : ℕ) {h : Head} (w : Enters s i p l h) where
-  one-broken : h ≡ Broken → one inner p l (drop i s) ≡ none
+module _ (inner : ℕ → List ℕ → Option (List ℕ)) (p : ℕ → Bool) (l : Option (List ℕ)) (s : List ℕ) (i : ℕ) where
+  one-broken : Enters s i p l None → one inner p l (drop i s) ≡ none
   unfolding Enters one bind
-  one-broken e = let g : good_head p l (drop i s) ≡ none = rw e at w in rw g refl
+  one-broken w = rw w refl
 
-  module _ (o : Item) (e : h ≡ Record o) where
+  module _ (o : Item) (w : Enters s i p l (Some o)) where
     pub entered : IsItem s i o
     unfolding Enters
-    entered = let g : Enters s i p l (Record o) = rw e at w in g.0
+    entered = w.0
 
-    opened : one inner p l (drop i s) ≡ bind (body inner o.kind o.count (drop o.next s)) (behind (part s o.from o.to))
+    opened : one inner p l (drop i s) ≡ bind (body inner o.kind o.count (drop o.next s)) (behind (part s o.name.from o.name.to))
     unfolding Enters one bind
     opened =
-        let g : Enters s i p l (Record o) = rw e at w in
-        let f : good_head p l (drop i s) ≡ some ((part s o.from o.to, g.0.v), drop o.next s) = g.1 ∙ g.0.is in
-        rw f (rw (← g.0.sort, ← g.0.number) refl)
+        let f : good_head p l (drop i s) ≡ some ((part s o.name.from o.name.to, w.0.v), drop o.next s) = w.1 ∙ w.0.is in
+        rw f (rw (← w.0.sort, ← w.0.number) refl)
 
-    one_bad : {r : Ends} → EndsAt s o.next (body inner o.kind o.count (drop o.next s)) r → r ≡ Bad → one inner p l (drop i s) ≡ none
+    one_bad : EndsAt s o.next (body inner o.kind o.count (drop o.next s)) None → one inner p l (drop i s) ≡ none
     unfolding EndsAt bind
-    one_bad q z = let g : body inner o.kind o.count (drop o.next s) ≡ none = rw z at q in opened ∙ rw g refl
+    one_bad q = opened ∙ rw q refl
 
-    one_on : {r : Ends} {j : ℕ} → EndsAt s o.next (body inner o.kind o.count (drop o.next s)) r → r ≡ At j →
-        (o.next ≤ j) × (j ≤ length s) × (one inner p l (drop i s) ≡ some (part s o.from o.to, drop j s))
+    one_on : (j : ℕ) → EndsAt s o.next (body inner o.kind o.count (drop o.next s)) (Some j) → (o.next ≤ j) × (j ≤ length s) × (one inner p l (drop i s) ≡ some (part s o.name.from o.name.to, drop j s))
     unfolding EndsAt bind
-    one_on {j = j} q z = let g : EndsAt s o.next (body inner o.kind o.count (drop o.next s)) (At j) = rw z at q in (g.0, g.1, opened ∙ rw g.2 refl)
+    one_on j q = (q.0, q.1, opened ∙ rw q.2 refl)
 
 run-one : (inner : ℕ → List ℕ → Option (List ℕ)) (p : ℕ → Bool) (k : ℕ) (l : Option (List ℕ)) (b : List ℕ) → 0 < k → run inner p k l b ≡ bind (one inner p l b) (λ y. run inner p (k - 1) (some y.0) y.1)
 unfolding run
@@ -448,71 +449,74 @@ run-one inner p zero l b h = absurd (omega arith)
 run-one inner p (suc k) l b h = let e : suc k - 1 ≡ k = omega arith in rw e refl
 
 -- Where `inside` stands: what is left to read is what was to be read.
-pub record Running (s : List ℕ) (at count levels i left : ℕ) (last : Last) : Type 0 where
+pub record Running (s : List ℕ) (at count levels i left : ℕ) (last : RustOption Range) : Type 0 where
   pub on : at ≤ i
   pub inside : i ≤ length s
   pub named : InLast s last
   pub same : within levels count (drop at s) ≡ run (within (levels - 1)) name_byte left (last_in s last) (drop i s)
 
-pub body_flat : (s : List ℕ) (kind at count levels : ℕ) → (kind ≡ 3 → ⊥) → at ≤ length s → EndsAt s at (body (within levels) kind count (drop at s)) (At at)
+pub body_flat : (s : List ℕ) (kind : Kind) (at count levels : ℕ) → (kind ≡ Dictionary → ⊥) → at ≤ length s → EndsAt s at (body (within levels) kind count (drop at s)) (Some at)
 unfolding EndsAt body
-body_flat s kind at count levels h l = (omega arith, l, rw (ne_eqb kind 3 h, body) refl)
+body_flat s Nothing at count levels h l = (omega arith, l, refl)
+body_flat s Text at count levels h l = (omega arith, l, refl)
+body_flat s Dictionary at count levels h l = absurd (h refl)
 
-body_deep : (kind count levels : ℕ) (b : List ℕ) → kind ≡ 3 → body (within levels) kind count b ≡ within levels count b
+body_deep : (kind : Kind) (count levels : ℕ) (b : List ℕ) → kind ≡ Dictionary → body (within levels) kind count b ≡ within levels count b
 unfolding body
 body_deep kind count levels b h = rw h refl
 
-pub body-none : (s : List ℕ) (kind at count levels : ℕ) → kind ≡ 3 → levels ≡ 0 → EndsAt s at (body (within levels) kind count (drop at s)) Bad
+pub body-none : (s : List ℕ) (kind : Kind) (at count levels : ℕ) → kind ≡ Dictionary → levels ≡ 0 → EndsAt s at (body (within levels) kind count (drop at s)) None
 unfolding EndsAt within
 body-none s kind at count levels h e = body_deep kind count levels (drop at s) h ∙ rw e refl
 
-pub running-start : (s : List ℕ) (at count levels : ℕ) → at ≤ length s → (levels ≡ 0 → ⊥) → Running s at count levels at count (record { known = false; from = 0; to = 0 })
-unfolding last_in guard within
+pub running-start : (s : List ℕ) (at count levels : ℕ) → at ≤ length s → (levels ≡ 0 → ⊥) → Running s at count levels at (count - 0) None
+unfolding last_in within
 running-start s at count zero h e = absurd (e refl)
 running-start s at count (suc l) h e =
     let z : suc l - 1 ≡ l = omega arith in
-    record { on = omega arith; inside = h; named = record { on = omega arith; inside = omega arith }; same = rw z refl }
+    let y : count - 0 ≡ count = omega arith in
+    record { on = omega arith; inside = h; named = tt; same = rw (z, y) refl }
 
-module _ {s : List ℕ} {at count levels i left : ℕ} {last : Last} (g : Running s at count levels i left last) (kind : ℕ) (deep : kind ≡ 3) where
-  pub running-end : left ≤ 0 → EndsAt s at (body (within levels) kind count (drop at s)) (At i)
+module _ {s : List ℕ} {at count levels i left : ℕ} {last : RustOption Range} (g : Running s at count levels i left last) (kind : Kind) (deep : kind ≡ Dictionary) where
+  pub running-end : left ≤ 0 → EndsAt s at (body (within levels) kind count (drop at s)) (Some i)
   unfolding EndsAt run
   running-end h = let z : left ≡ 0 = omega arith in (g.on, g.inside, body_deep kind count levels (drop at s) deep ∙ g.same ∙ rw z refl)
 
   module _ (h : 0 < left) where
-    stopped : one (within (levels - 1)) name_byte (last_in s last) (drop i s) ≡ none → EndsAt s at (body (within levels) kind count (drop at s)) Bad
+    stopped : one (within (levels - 1)) name_byte (last_in s last) (drop i s) ≡ none → EndsAt s at (body (within levels) kind count (drop at s)) None
     unfolding EndsAt bind
     stopped e = body_deep kind count levels (drop at s) deep ∙ g.same ∙ run-one (within (levels - 1)) name_byte left (last_in s last) (drop i s) h ∙ rw e refl
 
-    pub running-broken : {x : Head} → Enters s i name_byte (last_in s last) x → x ≡ Broken → EndsAt s at (body (within levels) kind count (drop at s)) Bad
-    running-broken w e = stopped (one-broken (within (levels - 1)) name_byte (last_in s last) s i w e)
+    pub running-broken : Enters s i name_byte (last_in s last) None → EndsAt s at (body (within levels) kind count (drop at s)) None
+    running-broken w = stopped (one-broken (within (levels - 1)) name_byte (last_in s last) s i w)
 
-    module _ {x : Head} (w : Enters s i name_byte (last_in s last) x) (o : Item) (e : x ≡ Record o) {r : Ends} (q : EndsAt s o.next (body (within (levels - 1)) o.kind o.count (drop o.next s)) r) where
-      pub running_bad : r ≡ Bad → EndsAt s at (body (within levels) kind count (drop at s)) Bad
-      running_bad z = stopped (one_bad (within (levels - 1)) name_byte (last_in s last) s i w o e q z)
+    module _ (o : Item) (w : Enters s i name_byte (last_in s last) (Some o)) where
+      pub running_bad : EndsAt s o.next (body (within (levels - 1)) o.kind o.count (drop o.next s)) None → EndsAt s at (body (within levels) kind count (drop at s)) None
+      running_bad q = stopped (one_bad (within (levels - 1)) name_byte (last_in s last) s i o w q)
 
-      pub running-on : {j : ℕ} → r ≡ At j → Running s at count levels j (left - 1) (record { known = true; from = o.from; to = o.to })
-      unfolding last_in guard bind
-      running-on z =
-          let f = one_on (within (levels - 1)) name_byte (last_in s last) s i w o e q z in
-          let d = entered (within (levels - 1)) name_byte (last_in s last) s i w o e in
+      pub running-on : (j : ℕ) {k : ℕ} → k ≡ left - 1 → EndsAt s o.next (body (within (levels - 1)) o.kind o.count (drop o.next s)) (Some j) → Running s at count levels j k (Some o.name)
+      unfolding last_in bind
+      running-on j e q =
+          let f = one_on (within (levels - 1)) name_byte (last_in s last) s i o w j q in
+          let d = entered (within (levels - 1)) name_byte (last_in s last) s i o w in
           record {
             on = omega (arith, g.on, f.0, d.past, d.name, d.behind, d.on);
             inside = f.1;
-            named = record { on = d.name; inside = omega (arith, d.behind, d.on, d.inside) };
-            same = g.same ∙ run-one (within (levels - 1)) name_byte left (last_in s last) (drop i s) h ∙ rw f.2 refl;
+            named = (d.name, omega (arith, d.behind, d.on, d.inside));
+            same = g.same ∙ run-one (within (levels - 1)) name_byte left (last_in s last) (drop i s) h ∙ rw (f.2, e) refl;
           }
 
 -- Where `check` stands, with at most m records left.
-pub record Checking (s : List ℕ) (i : ℕ) (last : Last) : Type 0 where
+pub record Checking (s : List ℕ) (i : ℕ) (last : RustOption Range) : Type 0 where
   pub m : ℕ
   pub enough : length s - i ≤ m
   pub inside : i ≤ length s
   pub named : InLast s last
   pub same : is_some (sheet_of s) ≡ is_some (run_all (within 6) word m (last_in s last) (drop i s))
 
-pub checking-start : (s : List ℕ) → length s ≤ 65535 → Checking s 0 (record { known = false; from = 0; to = 0 })
-unfolding last_in guard
-checking-start s h = record { m = length s; enough = omega arith; inside = omega arith; named = record { on = omega arith; inside = omega arith }; same = check-is s h }
+pub checking-start : (s : List ℕ) → length s ≤ 65535 → Checking s 0 None
+unfolding last_in
+checking-start s h = record { m = length s; enough = omega arith; inside = omega arith; named = tt; same = check-is s h }
 
 all_end : (inner : ℕ → List ℕ → Option (List ℕ)) (p : ℕ → Bool) (m : ℕ) (l : Option (List ℕ)) → run_all inner p m l [] ≡ some end
 unfolding run_all
@@ -524,7 +528,7 @@ unfolding run_all
 all_one inner p zero l x b h = absurd (omega arith)
 all_one inner p (suc m) l x b h = let e : suc m - 1 ≡ m = omega arith in rw e refl
 
-module _ {s : List ℕ} {i : ℕ} {last : Last} (g : Checking s i last) where
+module _ {s : List ℕ} {i : ℕ} {last : RustOption Range} (g : Checking s i last) where
   pub checking-end : length s ≤ i → true ≡ is_some (sheet_of s)
   unfolding is_some
   checking-end h = sym (g.same ∙ rw (drop_of_length-le s h, all_end (within 6) word g.m (last_in s last)) refl)
@@ -540,28 +544,29 @@ module _ {s : List ℕ} {i : ℕ} {last : Last} (g : Checking s i last) where
     unfolding is_some bind
     halted e = sym (next_one ∙ rw e refl)
 
-    pub checking-broken : {x : Head} → Enters s i word (last_in s last) x → x ≡ Broken → false ≡ is_some (sheet_of s)
-    checking-broken w e = halted (one-broken (within 6) word (last_in s last) s i w e)
+    pub checking-broken : Enters s i word (last_in s last) None → false ≡ is_some (sheet_of s)
+    checking-broken w = halted (one-broken (within 6) word (last_in s last) s i w)
 
-    module _ {x : Head} (w : Enters s i word (last_in s last) x) (o : Item) (e : x ≡ Record o) {r : Ends} (q : EndsAt s o.next (body (within 6) o.kind o.count (drop o.next s)) r) where
-      pub checking_bad : r ≡ Bad → false ≡ is_some (sheet_of s)
-      checking_bad z = halted (one_bad (within 6) word (last_in s last) s i w o e q z)
+    module _ (o : Item) (w : Enters s i word (last_in s last) (Some o)) where
+      pub checking_bad : EndsAt s o.next (body (within 6) o.kind o.count (drop o.next s)) None → false ≡ is_some (sheet_of s)
+      checking_bad q = halted (one_bad (within 6) word (last_in s last) s i o w q)
 
-      pub checking-past : {j : ℕ} → r ≡ At j → i < j
-      checking-past z =
-          let f = one_on (within 6) word (last_in s last) s i w o e q z in
-          let d = entered (within 6) word (last_in s last) s i w o e in
-          omega (arith, f.0, d.past, d.name, d.behind, d.on)
+      module _ (j : ℕ) (q : EndsAt s o.next (body (within 6) o.kind o.count (drop o.next s)) (Some j)) where
+        pub checking-past : i < j
+        checking-past =
+            let f = one_on (within 6) word (last_in s last) s i o w j q in
+            let d = entered (within 6) word (last_in s last) s i o w in
+            omega (arith, f.0, d.past, d.name, d.behind, d.on)
 
-      pub checking-on : {j : ℕ} → r ≡ At j → Checking s j (record { known = true; from = o.from; to = o.to })
-      unfolding last_in guard bind
-      checking-on z =
-          let f = one_on (within 6) word (last_in s last) s i w o e q z in
-          let d = entered (within 6) word (last_in s last) s i w o e in
-          record {
-            m = g.m - 1;
-            enough = omega (arith, g.enough, f.0, d.past, d.name, d.behind, d.on);
-            inside = f.1;
-            named = record { on = d.name; inside = omega (arith, d.behind, d.on, d.inside) };
-            same = next_one ∙ rw f.2 refl;
-          }
+        pub checking-on : Checking s j (Some o.name)
+        unfolding last_in bind
+        checking-on =
+            let f = one_on (within 6) word (last_in s last) s i o w j q in
+            let d = entered (within 6) word (last_in s last) s i o w in
+            record {
+              m = g.m - 1;
+              enough = omega (arith, g.enough, f.0, d.past, d.name, d.behind, d.on);
+              inside = f.1;
+              named = (d.name, omega (arith, d.behind, d.on, d.inside));
+              same = next_one ∙ rw f.2 refl;
+            }

@@ -3,7 +3,7 @@ use Rattle.std.specs.Prelude.{◌≡◌, List, [], ◌++◌, Bool, true, false, 
 use Rattle.rules.specs.Reader.{stop}
 use Rattle.rules.specs.Bytes.{underscored}
 use Rattle.rules.specs.Sheet.{Lookup, text_of}
-use Rattle.rules.specs.Strings.{literal, plus, expression_round}
+use Rattle.rules.specs.Strings.{literal, plus, expression_round, expression}
 use Rattle.scan.specs.Sets.{part}
 use Rattle.string_ends.specs.declared.RoundStart.{RoundStart}
 use Rattle.string_ends.specs.declared.RoundStart.TheVariants.{Literal, Reference, Nothing}
@@ -12,6 +12,11 @@ use Rattle.string_ends.specs.declared.RoundStart.TheVariants.{Literal, Reference
 pub record Ends (r : List ℕ × List ℕ) (t : List ℕ) (k : ℕ) : Type 0 where
   pub inside : k ≤ length t
   pub rest : r.1 ≡ drop k t
+
+-- And its text is taken: before it a, behind it z.
+pub record Reads {A : Type 0} (takes : A → List ℕ → A → Type 0) (r : List ℕ × List ℕ) (t : List ℕ) (a : A) (k : ℕ) (z : A) : Type 0 where
+  pub ends : Ends r t k
+  pub text : takes a r.0 z
 
 -- And its text is v.
 pub record Makes (r : List ℕ × List ℕ) (t : List ℕ) (k : ℕ) (v : List ℕ) : Type 0 where
@@ -30,7 +35,17 @@ Begins t (Literal i) = (i ≤ length t) × ((look : Lookup) (k : ℕ) → Ends (
 Begins t (Reference i k) = (i ≤ k) × (k ≤ length t) × ((look : Lookup) → IsRound look true t k (text_of (look (underscored (part t i k)))))
 Begins t (Nothing i) = (look : Lookup) → IsRound look false t i []
 
--- A round up to its `+` ends behind k bytes, for every lookup.
-pub record EndsRound (t : List ℕ) (found : Bool) (k : ℕ) : Type 0 where
+-- A round up to its `+`, read for every lookup, and a text taken, which is the round's where references are looked up: before it a, behind it z.
+pub record ReadsRound {A : Type 0} (takes : A → List ℕ → A → Type 0) (looks : A → Lookup → Type 0) (t : List ℕ) (found : Bool) (k : ℕ) (a z : A) : Type 0 where
   pub text : Lookup → List ℕ
   pub round : (look : Lookup) → IsRound look found t k (text look)
+  pub took : List ℕ
+  pub taken : takes a took z
+  pub says : (look : Lookup) → looks a look → text look ≡ took
+
+-- An expression, likewise.
+pub record ReadsExpression {A : Type 0} (takes : A → List ℕ → A → Type 0) (looks : A → Lookup → Type 0) (t : List ℕ) (a : A) (k : ℕ) (z : A) : Type 0 where
+  pub ends : (look : Lookup) → Ends (expression look t) t k
+  pub took : List ℕ
+  pub taken : takes a took z
+  pub says : (look : Lookup) → looks a look → (expression look t).0 ≡ took

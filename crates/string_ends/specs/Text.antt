@@ -1,7 +1,7 @@
 -- Literals and expressions at a place of a text: what they come to from there, and where they end.
 use Rattle.std.specs.Prelude.{◌≡◌, Bool, false, not, ◌&&◌, length, drop, get_or}
 use Rattle.std.proofs.Math.Path.{refl, ap}
-use Rattle.std.proofs.Common.{sym, ◌∙◌, true≢false, arith, add-one, length-drop, drop-cons, drop-drop, eq-eqb, ne_eqb}
+use Rattle.std.proofs.Common.{sym, subst, ◌∙◌, true≢false, arith, add-one, length-drop, drop-cons, drop-drop, eq-eqb, ne_eqb}
 use mathlib.Core.List.{List, [], ◌∷◌, ◌++◌, append_assoc, append-nil}
 use Rattle.std.proofs.Math.Bool.{true}
 use Rattle.std.proofs.Math.Option.{none}
@@ -17,7 +17,7 @@ use Rattle.rules.proofs.Laws.Enough.{rounds-again, rounds-stop, expression-movin
 use Rattle.scan.specs.Laws.{seen, skip_at, tail-part}
 use Rattle.scan.specs.Stretches.{span-stops}
 use Rattle.scan.specs.Sets.{part, plain_byte, Spans, Sees}
-use Rattle.string_ends.specs.Ends.{Ends, Makes, IsRound, Begins, EndsRound}
+use Rattle.string_ends.specs.Ends.{Ends, Reads, Makes, IsRound, Begins, ReadsRound, ReadsExpression}
 use Rattle.string_ends.specs.declared.RoundStart.{RoundStart}
 use Rattle.string_ends.specs.declared.RoundStart.TheVariants.{Literal, Reference, Nothing}
 
@@ -117,6 +117,35 @@ module _ {t : List ℕ} {i : ℕ} {v : List ℕ} (s : LiteralTo t i v) {j : ℕ}
           let g : literal_from (drop (suc j) t) true ≡ onto (escape (get_or t (suc j) 0)) (literal_from (drop (suc (suc j)) t) false) = rw (drop-cons t (suc j) 0 (omega arith)) refl in
           record { inside = omega arith; left = rw (add-two, add-one) (passed ∙ ap (onto _) (slash ∙ g) ∙ onto-onto _ _ _) }
 
+-- A text that was made, and is taken.
+pub reads : {A : Type 0} {takes : A → List ℕ → A → Type 0} {r : List ℕ × List ℕ} {t : List ℕ} {a z : A} {k : ℕ} {v : List ℕ} → Makes r t k v → takes a v z → Reads takes r t a k z
+reads {takes = takes} {a = a} {z} m s = record { ends = m.ends; text = subst (λ v. takes a v z) (sym m.text) s }
+
+-- A literal is read up to i, no backslash open, and taken.
+pub record LiteralAt {A : Type 0} (takes : A → List ℕ → A → Type 0) (t : List ℕ) (a z : A) (i : ℕ) : Type 0 where
+  pub text : List ℕ
+  pub to : LiteralTo t i text
+  pub taken : takes a text z
+
+pub literal_start : {A : Type 0} {takes : A → List ℕ → A → Type 0} {a : A} → takes a [] a → (t : List ℕ) → LiteralAt takes t a a 0
+literal_start n t = record { text = []; to = literal-begun t; taken = n }
+
+module _ {A : Type 0} {takes : A → List ℕ → A → Type 0} (more : (a b c : A) (v w : List ℕ) → takes a v b → takes b w c → takes a (v ++ w) c)
+    {t : List ℕ} {a b c : A} {i : ℕ} (s : LiteralAt takes t a b i) {j : ℕ} (n : Spans plain_byte t i j) (u : takes b (take (j - i) (drop i t)) c) where
+  pub literal_end : takes c [] c → length t ≤ j → Reads takes (literal t) t a j c
+  literal_end z h = reads (makes-end s.to n h) (more _ _ _ _ _ (more _ _ _ _ _ s.taken u) z)
+
+  module _ (h : j < length t) where
+    pub literal_quote : takes c [] c → get_or t j 0 ≡ 34 → Reads takes (literal t) t a (j + 1) c
+    literal_quote z x = reads (makes-quote s.to n h x) (more _ _ _ _ _ (more _ _ _ _ _ s.taken u) z)
+
+    module _ (x : get_or t j 0 ≡ 34 → ⊥) {d : A} where
+      pub literal_last : length t - j ≡ 1 → takes c (92 ∷ []) d → Reads takes (literal t) t a (j + 1) d
+      literal_last y z = reads (makes-last s.to n h x y) (more _ _ _ _ _ (more _ _ _ _ _ s.taken u) z)
+
+      pub literal_escape : (length t - j ≡ 1 → ⊥) → takes c (escape (get_or t (j + 1) 0)) d → LiteralAt takes t a d (j + 2)
+      literal_escape y z = record { text = _; to = literal-on s.to n h x y; taken = more _ _ _ _ _ (more _ _ _ _ _ s.taken u) z }
+
 -- EXPRESSIONS. A round of one, by what the scans said.
 module _ (look : Lookup) (t : List ℕ) (i : ℕ) (l : Spans line_blank t 0 i) where
   round-literal : (k : ℕ) (a : List ℕ) → Sees (the "\"") t i true → (literal (drop (i + 1) t)).1 ≡ drop k t → expression_round look a t ≡ plus look (a ++ (literal (drop (i + 1) t)).0) (drop k t)
@@ -193,6 +222,17 @@ module _ (t : List ℕ) {s : RoundStart} (b : Begins t s) where
     unfolding Begins
     round-at-nothing e = (rw e at b) look
 
+-- A round is read, by what it begins with, and its text taken.
+module _ (t : List ℕ) {s : RoundStart} (w : Begins t s) {A : Type 0} {takes : A → List ℕ → A → Type 0} {looks : A → Lookup → Type 0} {a : A} where
+  pub literal-taken : {i k : ℕ} {z : A} → s ≡ Literal i → Reads takes (literal (part t i (length t))) (part t i (length t)) a k z → ReadsRound takes looks t true (i + k) a z
+  literal-taken e r = record { text = λ look. _; round = λ look. round-at-literal t w look e r.ends; took = _; taken = r.text; says = λ look l. refl }
+
+  pub reference-taken : {i k : ℕ} {z : A} → s ≡ Reference i k → ((v : List ℕ) × takes a v z × ((look : Lookup) → looks a look → text_of (look (underscored (part t i k))) ≡ v)) → ReadsRound takes looks t true k a z
+  reference-taken e h = record { text = λ look. _; round = λ look. round-at-reference t w look e; took = h.0; taken = h.1; says = h.2 }
+
+  pub nothing-taken : {i : ℕ} → s ≡ Nothing i → takes a [] a → ReadsRound takes looks t false i a a
+  nothing-taken e n = record { text = λ look. []; round = λ look. round-at-nothing t w look e; took = []; taken = n; says = λ look l. refl }
+
 -- An expression is read up to i; v is its text so far.
 pub record ExpressionTo (look : Lookup) (t : List ℕ) (i : ℕ) (v : List ℕ) : Type 0 where
   pub inside : i ≤ length t
@@ -231,16 +271,35 @@ module _ {look : Lookup} {t : List ℕ} {i : ℕ} {v : List ℕ} (x : Expression
         let z = rounds-again (expression_round look) (λ a. a) (expression-moving look) v _ (drop i t) (ap (λ y. y.0) g) in
         record { inside = omega (arith, w.there refl); left = x.left ∙ z ∙ ap (λ y. rounds (expression_round look) (λ a. a) (v ++ u) y.1) g }
 
--- An expression is read up to i, for every lookup.
-pub record ExpressionEnds (t : List ℕ) (i : ℕ) : Type 0 where
+-- An expression is read up to i, for every lookup, and a text taken.
+pub record ExpressionAt {A : Type 0} (takes : A → List ℕ → A → Type 0) (looks : A → Lookup → Type 0) (t : List ℕ) (a z : A) (i : ℕ) : Type 0 where
   pub text : Lookup → List ℕ
   pub to : (look : Lookup) → ExpressionTo look t i (text look)
+  pub took : List ℕ
+  pub taken : takes a took z
+  pub says : (look : Lookup) → looks a look → text look ≡ took
 
--- A literal is read up to i.
-pub record LiteralEnds (t : List ℕ) (i : ℕ) : Type 0 where
-  pub text : List ℕ
-  pub to : LiteralTo t i text
+pub expression_start : {A : Type 0} {takes : A → List ℕ → A → Type 0} {looks : A → Lookup → Type 0} {a : A} → takes a [] a → (t : List ℕ) → ExpressionAt takes looks t a a 0
+expression_start n t = record { text = λ look. []; to = λ look. expression-begun look t; took = []; taken = n; says = λ look l. refl }
 
--- By a lookup that finds nothing: the round lies in the text.
-pub ends-inside : {t : List ℕ} {i : ℕ} → ExpressionEnds t i → {f : Bool} {k : ℕ} → EndsRound (take (length t - i) (drop i t)) f k → i + k ≤ length t
-ends-inside x M = round-inside (x.to (λ z. none)) (M.round (λ z. none))
+module _ {A : Type 0} {takes : A → List ℕ → A → Type 0} {looks : A → Lookup → Type 0} {t : List ℕ} {a b c : A} {i : ℕ} (x : ExpressionAt takes looks t a b i) {f : Bool} {k : ℕ} (M : ReadsRound takes looks (take (length t - i) (drop i t)) f k b c) where
+  -- By a lookup that finds nothing: the round lies in the text.
+  pub ends-inside : i + k ≤ length t
+  ends-inside = round-inside (x.to (λ z. none)) (M.round (λ z. none))
+
+  module _ (more : (a b c : A) (v w : List ℕ) → takes a v b → takes b w c → takes a (v ++ w) c) (kept : (a b : A) (v : List ℕ) (look : Lookup) → takes a v b → looks a look → looks b look) where
+    both : (look : Lookup) → looks a look → (x.text look ++ M.text look) ≡ (x.took ++ M.took)
+    both look l = rw (x.says look l, M.says look (kept _ _ _ look x.taken l)) refl
+
+    made : {m : ℕ} → ((look : Lookup) → Makes (expression look t) t m (x.text look ++ M.text look)) → ReadsExpression takes looks t a m c
+    made h = record { ends = λ look. (h look).ends; took = _; taken = more _ _ _ _ _ x.taken M.taken; says = λ look l. (h look).text ∙ both look l }
+
+    pub expression_none : f ≡ false → ReadsExpression takes looks t a (i + k) c
+    expression_none e = made (λ look. makes_none (x.to look) (M.round look) e)
+
+    module _ {j : ℕ} (e : f ≡ true) (n : Spans line_blank t (i + k) j) where
+      pub expression_last : Sees (the "+") t j false → ReadsExpression takes looks t a j c
+      expression_last w = made (λ look. makes-plus (x.to look) (M.round look) e n w)
+
+      pub expression_again : Sees (the "+") t j true → ExpressionAt takes looks t a c (j + 1)
+      expression_again w = record { text = λ look. _; to = λ look. expression-on (x.to look) (M.round look) e n w; took = _; taken = more _ _ _ _ _ x.taken M.taken; says = both }

@@ -1,28 +1,117 @@
-// Where literals and expressions end (document 01, section 3): the same for every sheet, and found without their texts.
+// Literals and expressions (document 01, section 3): what is done with a text that is read piece by piece, and where it ends, which is the same
+// for every sheet.
 #![tactic(auto)]
 
-ghost use Rattle.rules.specs.Sheet.{Lookup};
-ghost use Rattle.rules.specs.Strings.{literal, expression};
-ghost use Rattle.string_ends.specs.Ends.{Ends, Begins, EndsRound};
+ghost use Rattle.std.specs.Prelude.{◌≡◌, List, ℕ, [], ◌++◌};
+ghost use Rattle.rules.specs.Bytes.{underscored};
+ghost use Rattle.rules.specs.Sheet.{Lookup, text_of};
+ghost use Rattle.rules.specs.Strings.{escape, literal, expression};
+ghost use Rattle.string_ends.specs.Ends.{Ends, Reads, Begins, ReadsRound, ReadsExpression};
+
+// What takes a text, piece by piece.
+pub trait Pieces {
+    ghost Ready: { Self → Type 0 };
+
+    // Before a text, the text, and behind it.
+    ghost Takes: { Self → List ℕ → Self → Type 0 };
+
+    // Takes a piece.
+    fn take(&mut self, piece: &[u8])
+        requires { Ready self.old }
+        ensures ready { Ready self.new }
+        ensures takes { Takes self.old piece.now self.new };
+
+    ghost none: { (a : Self) → Ready a → Takes a [] a };
+
+    ghost more: { (a b c : Self) (v w : List ℕ) → Takes a v b → Takes b w c → Takes a (v ++ w) c };
+}
+
+// What takes an expression's text: its literals piece by piece, and the texts that its references stand for.
+pub trait Terms: Pieces {
+    // What references are looked up by.
+    ghost Looks: { Self → Lookup → Type 0 };
+
+    // Takes the text that a run stands for.
+    fn reference(&mut self, run: &[u8])
+        requires { Self.Ready self.old }
+        ensures ready { Self.Ready self.new }
+        ensures takes { (v : List ℕ) × Self.Takes self.old v self.new × ((look : Lookup) → Looks self.old look → text_of (look (underscored run.now)) ≡ v) };
+
+    ghost kept: { (a b : Self) (v : List ℕ) (look : Lookup) → Self.Pieces.Takes a v b → Looks a look → Looks b look };
+}
+
+// Takes what a backslash and this byte stand for.
+fn escape<P: Pieces>(to: &mut P, x: u8)
+    requires { P.Ready to.old }
+    ensures ready { P.Ready to.new }
+    ensures takes { P.Takes to.old (escape x) to.new }
+{
+    match x {
+        b'n' => to.take(b"\n"),
+        b't' => to.take(b"\t"),
+        b'"' => to.take(b"\""),
+        b'\\' => to.take(b"\\"),
+        _ => {
+            let both = [b'\\', x];
+            to.take(&both);
+        }
+    }
+}
+
+// Reads a literal from behind its quote; where it ends. A stretch without quote and backslash is taken whole.
+pub fn literal<P: Pieces>(text: &[u8], to: &mut P) -> usize
+    requires { P.Ready to.old }
+    ensures ready { P.Ready to.new }
+    ensures reads { Reads P.Takes (literal text.now) text.now to.old result to.new }
+{
+    let mut i: usize = 0;
+    loop {
+        let j = scan::span(text, i, scan::Set::NotQuoteNorBackslash);
+        to.take(&text[i..j]);
+        if text.len() <= j {
+            return j;
+        }
+        if text[j] == b'"' {
+            return j + 1;
+        }
+        if text.len() - j == 1 {
+            to.take(b"\\");
+            return j + 1;
+        }
+        escape(to, text[j + 1]);
+        i = j + 2;
+    }
+}
+
+// Where a text is read for its end alone.
+#[derive(Clone, Copy)]
+struct Nowhere;
+
+impl Pieces for Nowhere {
+    ghost Ready = { λ a. Unit {0} };
+
+    ghost Takes = { λ a v b. Unit {0} };
+
+    fn take(&mut self, _piece: &[u8]) {}
+
+    ghost none = { λ a r. tt };
+
+    ghost more = { λ a b c v w p q. tt };
+}
+
+impl Terms for Nowhere {
+    ghost Looks = { λ a look. ⊥ };
+
+    fn reference(&mut self, _run: &[u8]) {}
+
+    ghost kept = { λ a b v look p q. q };
+}
 
 // Where a literal ends, from behind its quote.
 pub fn literal_end(text: &[u8]) -> usize
     ensures { Ends (literal text.now) text.now result }
 {
-    let mut i: usize = 0;
-    loop {
-        let j = scan::span(text, i, scan::Set::NotQuoteNorBackslash);
-        if text.len() <= j {
-            return j;
-        }
-        if text[j] == 34 {
-            return j + 1;
-        }
-        if text.len() - j == 1 {
-            return j + 1;
-        }
-        i = j + 2;
-    }
+    literal(text, &mut Nowhere)
 }
 
 // What a round of an expression begins with: a literal, from behind its quote; a reference's run; neither.
@@ -48,43 +137,49 @@ pub fn round_start(text: &[u8]) -> RoundStart
     RoundStart::Nothing { at: i }
 }
 
-// Where a round of an expression ends, and is there a term?
+// A round of an expression: is there a term, and where does the round end?
 #[derive(Clone, Copy)]
-pub struct RoundEnd {
+pub struct Round {
     pub found: bool,
     pub used: usize,
 }
 
-// Where a round of an expression ends, up to its `+`.
-fn round_end(text: &[u8]) -> RoundEnd
-    ensures { EndsRound text.now result.found result.used }
+// Reads a round of an expression up to its `+`.
+pub fn read_round<P: Terms>(text: &[u8], to: &mut P) -> Round
+    requires { P.Ready to.old }
+    ensures ready { P.Ready to.new }
+    ensures reads { ReadsRound P.Takes P.Looks text.now result.found result.used to.old to.new }
 {
-    let start = round_start(text);
-    match start {
-        RoundStart::Literal { from } => RoundEnd {
+    match round_start(text) {
+        RoundStart::Literal { from } => Round {
             found: true,
-            used: from + literal_end(&text[from..]),
+            used: from + literal(&text[from..], to),
         },
-        RoundStart::Reference { from: _, to } => RoundEnd {
-            found: true,
-            used: to,
-        },
-        RoundStart::Nothing { at } => RoundEnd {
+        RoundStart::Reference { from, to: end } => {
+            to.reference(&text[from..end]);
+            Round {
+                found: true,
+                used: end,
+            }
+        }
+        RoundStart::Nothing { at } => Round {
             found: false,
             used: at,
         },
     }
 }
 
-// Where an expression ends.
-pub fn expression_end(text: &[u8]) -> usize
-    ensures { (look : Lookup) → Ends (expression look text.now) text.now result }
+// Reads an expression; where it ends.
+pub fn expression<P: Terms>(text: &[u8], to: &mut P) -> usize
+    requires { P.Ready to.old }
+    ensures ready { P.Ready to.new }
+    ensures reads { ReadsExpression P.Takes P.Looks text.now to.old result to.new }
 {
     let mut i: usize = 0;
     loop {
-        let t = round_end(&text[i..]);
-        i += t.used;
-        if !t.found {
+        let r = read_round(&text[i..], to);
+        i += r.used;
+        if !r.found {
             return i;
         }
         i = scan::span(text, i, scan::Set::LineBlank);
@@ -93,4 +188,11 @@ pub fn expression_end(text: &[u8]) -> usize
         }
         i += 1;
     }
+}
+
+// Where an expression ends.
+pub fn expression_end(text: &[u8]) -> usize
+    ensures { (look : Lookup) → Ends (expression look text.now) text.now result }
+{
+    expression(text, &mut Nowhere)
 }

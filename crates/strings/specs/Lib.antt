@@ -1,4 +1,5 @@
-pub mod Progress
 pub mod Read
-pub mod Laws
 pub mod Paths
+pub mod Puts
+pub mod Looked
+pub mod Laws

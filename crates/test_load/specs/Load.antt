@@ -1,23 +1,17 @@
--- What the functions of the test load promise.
-use Rattle.std.specs.Prelude.{◌≡◌, ℕ, ◌≤◌, Bool, true, ◌&&◌, List, [], ◌∷◌, length, take, nat_le}
-use Rattle.rules.specs.Calls.{padded, test_load_of}
-use Rattle.scan.specs.Sets.{part}
-use Rattle.test_load.specs.declared.Outcome.{Outcome}
+-- What the call promises.
+use Rattle.std.specs.Prelude.{◌≡◌, ℕ, ◌≤◌, Bool, List, Result, Ok, Err, IfOk, length, take}
+use Rattle.rules.specs.Answer.{Answer, refused, accepted}
+use Rattle.rules.specs.Calls.{test_load_result}
+use Rattle.refusal.specs.declared.Refusal.{Refusal}
+use Rattle.refusal.specs.Numbers.{number}
 
--- The pieces of a text: from each start to the next.
-unfoldable pub cut : List ℕ → List ℕ → List (List ℕ)
-cut t [] = []
-cut t (a ∷ []) = []
-cut t (a ∷ b ∷ es) = part t a b ∷ cut t (b ∷ es)
-
--- The starts ascend, and none lies beyond n.
-unfoldable pub within : ℕ → List ℕ → Bool
-within n [] = true
-within n (a ∷ []) = nat_le a n
-within n (a ∷ b ∷ es) = nat_le a b && within n (b ∷ es)
+-- What a call answers: so many bytes at the start of a buffer, or the refusal.
+unfoldable pub answered : List ℕ → Result ℕ Refusal → Answer (List ℕ)
+answered c (Ok n) = accepted (take n c)
+answered c (Err refusal) = refused (number refusal)
 
 -- The load of a seed at the start of a buffer, b before and c after; or the refusal.
-pub record Loads (seed : ℕ) (definitions : Bool) (b c : List ℕ) (r : Outcome) : Type 0 where
+pub record Loads (seed : ℕ) (definitions : Bool) (b c : List ℕ) (r : Result ℕ Refusal) : Type 0 where
   pub size : length c ≡ length b
-  pub fits : r.len ≤ length b
-  pub is : test_load_of seed definitions (length b) ≡ record { number = r.number; len = r.len; out = padded (length b) (take r.len c) }
+  pub fits : IfOk r (λ n. n ≤ length b)
+  pub is : test_load_result seed definitions (length b) ≡ answered c r

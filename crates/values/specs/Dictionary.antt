@@ -22,7 +22,8 @@ use Rattle.places.specs.Place.{one-some, Between, between_start}
 use Rattle.places.specs.Mark.{ascending, set-ascending, Marked, HasMark}
 use Rattle.binding.specs.Write.{IsSource, HasSource, Bindable, BindsAt, Leaves, set-size}
 use Rattle.binding.specs.declared.Put.{Put}
-use Rattle.binding.specs.declared.Bound.TheVariants.{Over, Length}
+use Rattle.std.specs.Prelude.{Option as RustOption, Some, None}
+use Rattle.std.specs.Option.{option_map}
 use Rattle.values.specs.declared.ValueRead.{ValueRead}
 use Rattle.values.specs.Values.{Room, room-two, room-behind, lent-size, lent-first, Taken, ReadsValue, IsNone, Refused, Closes}
 
@@ -244,17 +245,17 @@ module _ (limit l : ℕ) {t : List ℕ} {at : ℕ} {z w c : List ℕ} {i n last 
       }
 
       -- The entry was bound, or is too long. s₀: there is a sheet.
-      module _ (s₀ : IsSheet z) (h : v.ok ≡ true) {room : ℕ} (u : room ≡ limit - 3) {b : List ℕ} {q : Put} (B : (x : Value) → IsSource x v.bit v.count (part after limit (limit + v.len)) → BindsAt after n last room (part t j k) x b q) where
+      module _ (s₀ : IsSheet z) (h : v.ok ≡ true) {room : ℕ} (u : room ≡ limit - 3) {b : List ℕ} {q : RustOption Put} (B : (x : Value) → IsSource x v.bit v.count (part after limit (limit + v.len)) → BindsAt after n last room (part t j k) x b q) where
         binds-at : (s : IsSheet z) → BindsAt after n last (limit - 3) (part t j k) (T s h).v b q
         binds-at s = subst (λ x. BindsAt after n last x (part t j k) (T s h).v b q) u (B (T s h).v (own-source s h))
 
-        leaves : (s : IsSheet z) → Leaves b (limit - 3) (encode (set (G s).d (part t j k) (T s h).v)) q.bound
+        leaves : (s : IsSheet z) → Leaves b (limit - 3) (encode (set (G s).d (part t j k) (T s h).v)) (option_map (λ p. p.len) q)
         leaves s = (binds-at s).leaves (G s).d (marked s)
 
         pub bound-size : length b ≡ length w
         bound-size = (binds-at s₀).long ∙ after-size ∙ E.size
 
-        pub entering-over : {r : ValueRead} → q.bound ≡ Over → Refused 9 v.at r → ReadsValue limit (λ look. dictionary_value limit look l) t at z w b r
+        pub entering-over : {r : ValueRead} → q ≡ None → Refused 9 v.at r → ReadsValue limit (λ look. dictionary_value limit look l) t at z w b r
         unfolding Leaves
         entering-over g R = record {
           size = bound-size;
@@ -265,15 +266,15 @@ module _ (limit l : ℕ) {t : List ℕ} {at : ℕ} {z w c : List ℕ} {i n last 
           stops = λ s y. stopped s (ap (λ x. x.0) (turned s h) ∙ grown-over limit (resolve s.r) (G s).d (part t j k) (T s h).v (rw g at (leaves s))) ∙ ap refused (sym R.says);
         }
 
-        module _ {p : ℕ} (g : q.bound ≡ Length p) where
-          fitted : (s : IsSheet z) → (p ≤ limit - 3) × (p ≡ length (encode (set (G s).d (part t j k) (T s h).v))) × (take p b ≡ encode (set (G s).d (part t j k) (T s h).v))
+        module _ {p : Put} (g : q ≡ Some p) where
+          fitted : (s : IsSheet z) → (p.len ≤ limit - 3) × (p.len ≡ length (encode (set (G s).d (part t j k) (T s h).v))) × (take p.len b ≡ encode (set (G s).d (part t j k) (T s h).v))
           unfolding Leaves
           fitted s = rw g at (leaves s)
 
           goes_on : (s : IsSheet z) → (round s (G s).d (drop i t)).0 ≡ again (set (G s).d (part t j k) (T s h).v)
           goes_on s = ap (λ x. x.0) (turned s h) ∙ grown-fits limit (resolve s.r) (G s).d (part t j k) (T s h).v (omega (arith, (fitted s).0, (fitted s).1))
 
-          pub entering-on : Entering limit l t at z w b v.at p q.at
+          pub entering-on : Entering limit l t at z w b v.at p.len p.at
           entering-on = record {
             inside = U.inside;
             on = omega (arith, E.on, X.on, K.on, A.on, U.on);
@@ -283,7 +284,7 @@ module _ (limit l : ℕ) {t : List ℕ} {at : ℕ} {z w c : List ℕ} {i n last 
               d = set (G s).d (part t j k) (T s h).v;
               bytes = (fitted s).2;
               order = set-ascending (G s).d (part t j k) (T s h).v (G s).order;
-              between = (binds-at s).between (G s).d (marked s);
+              between = (binds-at s).between (G s).d (marked s) p g;
               left = (G s).left ∙ rounds-again (round s) (λ d. accepted (dictionary d)) (moving s) (G s).d (set (G s).d (part t j k) (T s h).v) (drop i t) (goes_on s) ∙ ap (λ x. rounds (round s) (λ d. accepted (dictionary d)) (set (G s).d (part t j k) (T s h).v) x.1) (turned s h);
             };
           }

@@ -3,12 +3,12 @@
 
 ghost use Rattle.std.specs.Prelude.{◌≡◌, ◌-◌, ◌≤◌, length};
 ghost use Rattle.rules.specs.Definitions.{text_value, value, dictionary_value};
-ghost use Rattle.sheet.specs.Find.{IsSheet};
-ghost use Rattle.sheet.specs.Find.{HasRecords};
+ghost use Rattle.sheet.specs.Find.{IsSheet, HasRecords};
 ghost use Rattle.values.specs.Values.{Room, ReadsValue, IsNone, Refused, Closes};
 
-use binding::Bound;
-use scan::Set;
+use binding::Source;
+use record_bytes::Lead;
+use scan::{Range, Set};
 use sheet::head::{DICTIONARY, NONE, TEXT};
 
 // What reading a value came to: is there one; if not, the refusal's number; where reading goes on; the value's bit, the number that stands before
@@ -175,13 +175,21 @@ fn dictionary(
             return no_value(v.number, v.at);
         }
         let end = limit + v.len;
-        let o = binding::bind_behind(work, n, last, room, &text[j..k], v.bit, v.count, limit, end);
-        let bound = o.bound;
-        match bound {
-            Bound::Over => return no_value(9, v.at),
-            Bound::Length(m) => n = m,
-        }
-        last = o.at;
+        let source = Source {
+            lead: Lead {
+                bit: v.bit,
+                count: v.count,
+            },
+            own: Range {
+                from: limit,
+                to: end,
+            },
+        };
+        let Some(put) = binding::bind_behind(work, n, last, room, &text[j..k], source) else {
+            return no_value(9, v.at);
+        };
+        n = put.len;
+        last = put.at;
         i = v.at;
     }
 }

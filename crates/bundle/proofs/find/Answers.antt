@@ -1,31 +1,41 @@
-use Rattle.std.proofs.Common.{rules}
-use native.Mathlib.Omega.{arith}
-use Rattle.bundle.specs.Find.{find_long, finding-start, ahead, reachable, finding-same, finding-on, finding-folder, finding-absent}
+use Rattle.std.proofs.Common.{◌≡◌, ◌-◌, ◌+◌, suc, ◌∙◌, arith}
+use Rattle.bundle.specs.Find.{find_long, finding-start, is-there, ahead, reachable, finding-same, finding-on, finding-folder, finding-absent}
 use Rattle.bundle.proofs.find.Goals as goal
 
-pub word-remaining-requires : goal.word-remaining-requires
-word-remaining-requires c = find_long _ c.requires
+pub word-done-end-requires : goal.word-done-end-requires
+word-done-end-requires c = find_long _ c.requires
 
-pub loop-remaining-init : goal.loop-remaining-init
-loop-remaining-init c = finding-start _ _ c.requires c.word-remaining.ensures
+pub loop-done-init : goal.loop-done-init
+loop-done-init c = let z : c.word-done-end.result - 0 ≡ c.word-done-end.result = omega arith in finding-start _ _ c.requires (z ∙ c.word-done-end.ensures)
 
-pub entry_at-h-requires : goal.entry_at-h-requires
-entry_at-h-requires c = c.loop-remaining.invariant.place
+pub entry_at-requires : goal.entry_at-requires
+entry_at-requires c = c.loop-done.invariant.place
 
-pub relate-n-requires : goal.relate-n-requires
-relate-n-requires c = reachable (ahead c.loop-remaining.invariant (search rules) c.entry_at-h.ensures) c.entry_at-h.ensures
+pub unwrap-entry-requires : goal.unwrap-entry-requires
+unwrap-entry-requires c = is-there c.loop-done.invariant (c.word-done-end.result - (c.loop-done.done + 1)) (omega arith) _ c.entry_at.ensures
 
-pub returns-then-n : goal.returns-then-n
-returns-then-n c = finding-same (ahead c.loop-remaining.invariant (search rules) c.entry_at-h.ensures) c.entry_at-h.ensures c.relate-n.ensures c.if-n.true
+pub path_of-requires : goal.path_of-requires
+path_of-requires c = let H = rw c.unwrap-entry.ensures at c.entry_at.ensures in (H.folder, H.name)
 
-pub overflow_add-at : goal.overflow_add-at
-overflow_add-at c = omega (arith, c.entry_at-h.ensures.inside)
+pub unwrap-own-requires : goal.unwrap-own-requires
+unwrap-own-requires c =
+    let z : c.word-done-end.result - c.loop-done.done ≡ suc (c.word-done-end.result - (c.loop-done.done + 1)) = omega arith in
+    reachable (ahead c.loop-done.invariant z (rw c.unwrap-entry.ensures at c.entry_at.ensures)) _ c.path_of.ensures
 
-pub loop-remaining-preserved : goal.loop-remaining-preserved
-loop-remaining-preserved c = finding-on (ahead c.loop-remaining.invariant (search rules) c.entry_at-h.ensures) c.entry_at-h.ensures c.relate-n.ensures c.if-n.false
+pub returns-then-same : goal.returns-then-same
+returns-then-same c =
+    let z : c.word-done-end.result - c.loop-done.done ≡ suc (c.word-done-end.result - (c.loop-done.done + 1)) = omega arith in
+    let H = rw c.unwrap-entry.ensures at c.entry_at.ensures in
+    finding-same (ahead c.loop-done.invariant z H) H (c.as_bytes-here.ensures ∙ (rw c.unwrap-own.ensures at c.path_of.ensures)) c.same.ensures c.if-same.true
+
+pub loop-done-preserved : goal.loop-done-preserved
+loop-done-preserved c =
+    let z : c.word-done-end.result - c.loop-done.done ≡ suc (c.word-done-end.result - (c.loop-done.done + 1)) = omega arith in
+    let H = rw c.unwrap-entry.ensures at c.entry_at.ensures in
+    finding-on (ahead c.loop-done.invariant z H) H (c.as_bytes-here.ensures ∙ (rw c.unwrap-own.ensures at c.path_of.ensures)) c.same.ensures c.if-same.false c.above-folder.ensures
 
 pub returns-then-folder : goal.returns-then-folder
-returns-then-folder c = finding-folder c.loop-remaining.invariant (search rules) c.if-folder.true
+returns-then-folder c = finding-folder c.loop-done.invariant (omega arith) c.if-folder.true
 
 pub returns : goal.returns
-returns c = finding-absent c.loop-remaining.invariant (search rules) c.if-folder.false
+returns c = finding-absent c.loop-done.invariant (omega arith) c.if-folder.false

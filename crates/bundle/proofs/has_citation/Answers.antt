@@ -1,13 +1,11 @@
-use borrow.Author.Tests.{not-true, not-false}
-use Rattle.scan.specs.Laws.{start-length}
+use Rattle.std.proofs.Common.{◌∙◌, ap, length, arith}
+use Rattle.paths.specs.Joined.{text-short}
+use Rattle.bundle.specs.Find.{entries_of}
 use Rattle.bundle.specs.Open.{citation_long, citation_asked}
 use Rattle.bundle.proofs.has_citation.Goals as goal
 
-pub returns-then-not-p : goal.returns-then-not-p
-returns-then-not-p c = citation_long c.args.b.now _ _ c.join-p.ensures.says (not-true _ c.if-not-p.true)
+pub returns-in-None : goal.returns-in-None
+returns-in-None c = citation_long c.args.b.now (entries_of c.args.b.now) _ c.in-None.ensures
 
-pub slice_bounds-find-end : goal.slice_bounds-find-end
-slice_bounds-find-end c = start-length _ _ c.join-p.ensures.size c.join-p.ensures.fits
-
-pub returns : goal.returns
-returns c = citation_asked _ _ _ c.join-p.ensures.says (not-false _ c.if-not-p.false) _ (c.join-p.ensures.text (not-false _ c.if-not-p.false)) c.find.ensures c.exists.ensures
+pub returns-in-Some : goal.returns-in-Some
+returns-in-Some c = citation_asked _ _ _ (omega (arith, ap length c.as_bytes.ensures, text-short c.in-Some.path)) (c.as_bytes.ensures ∙ c.in-Some.ensures) c.find.ensures c.exists.ensures

@@ -1,5 +1,5 @@
-use Rattle.bundle_entries.specs.Entries.{map_allowed}
+use Rattle.std.proofs.Common.{◌&&◌, ltb, ap}
 use Rattle.bundle_entries.proofs.allowed.Goals as goal
 
 pub returns : goal.returns
-returns c = map_allowed 3 c.args.m c.has_name.ensures
+returns c = ap (λ z. ltb c.args.map 8 && z) c.has.ensures

@@ -1,28 +1,20 @@
-use borrow.Author.Tests.{not-true, not-false}
-use native.Mathlib.Omega.{arith}
-use Rattle.bundle_entries.specs.Entries.{fields_no-folder, fields_no-name, fields_no-content, fields_all}
+use Rattle.bundle_entries.specs.Entries.{no-folder, no-name, no-content, all-fields}
 use Rattle.bundle_entries.proofs.fields.Goals as goal
 
-pub returns-then-not-g : goal.returns-then-not-g
-returns-then-not-g c = fields_no-folder _ _ _ c.has_folder.ensures c.field_if-g.ensures (not-true _ c.if-not-g.true) c.no_head.ensures
+pub name-requires : goal.name-requires
+name-requires c = c.in_ok-folder.ensures.within.inside
 
-pub overflow_add-g : goal.overflow_add-g
-overflow_add-g c = omega (arith, c.field_if-g.ensures.inside)
+pub field_if-requires-2 : goal.field_if-requires-2
+field_if-requires-2 c = c.in_ok-name.ensures.within.inside
 
-pub name-f-requires : goal.name-f-requires
-name-f-requires c = c.field_if-g.ensures.inside
+pub returns-in_err-folder : goal.returns-in_err-folder
+returns-in_err-folder c = rw c.from_residual.ensures (no-folder c.args.b.now c.args.map c.args.at c.has.ensures c.in_err-folder.ensures)
 
-pub returns-then-not-f : goal.returns-then-not-f
-returns-then-not-f c = fields_no-name _ _ _ c.has_folder.ensures c.field_if-g.ensures (not-false _ c.if-not-g.false) c.name-f.ensures (not-true _ c.if-not-f.true) c.no_head-then-not-f.ensures
+pub returns-in_err-name : goal.returns-in_err-name
+returns-in_err-name c = rw c.from_residual-in_err-name.ensures (no-name c.args.b.now c.args.map c.args.at c.has.ensures c.in_ok-folder.ensures c.in_err-name.ensures)
 
-pub overflow_add-f : goal.overflow_add-f
-overflow_add-f c = omega (arith, c.name-f.ensures.inside)
-
-pub field_if-c-requires : goal.field_if-c-requires
-field_if-c-requires c = c.name-f.ensures.inside
-
-pub returns-then-not-c : goal.returns-then-not-c
-returns-then-not-c c = fields_no-content _ _ _ c.has_folder.ensures c.field_if-g.ensures (not-false _ c.if-not-g.false) c.name-f.ensures (not-false _ c.if-not-f.false) c.has_content.ensures c.field_if-c.ensures (not-true _ c.if-not-c.true) c.no_head-then-not-c.ensures
+pub returns-in_err-content : goal.returns-in_err-content
+returns-in_err-content c = rw c.from_residual-in_err-content.ensures (no-content c.args.b.now c.args.map c.args.at c.has.ensures c.in_ok-folder.ensures c.in_ok-name.ensures c.has-2.ensures c.in_err-content.ensures)
 
 pub returns : goal.returns
-returns c = fields_all _ _ _ c.has_folder.ensures c.field_if-g.ensures (not-false _ c.if-not-g.false) c.name-f.ensures (not-false _ c.if-not-f.false) c.has_content.ensures c.field_if-c.ensures (not-false _ c.if-not-c.false)
+returns c = all-fields c.args.b.now c.args.map c.args.at c.has.ensures c.in_ok-folder.ensures c.in_ok-name.ensures c.has-2.ensures c.in_ok-content.ensures

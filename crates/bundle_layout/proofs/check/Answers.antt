@@ -1,5 +1,4 @@
 use Rattle.std.proofs.Common.{rules}
-use borrow.Author.Tests.{not-true, not-false}
 use Rattle.bundle_entries.specs.Whole.{check-short}
 use Rattle.bundle_layout.specs.Check.{walking_start, walking_on, walking-no, walking-end}
 use Rattle.bundle_layout.proofs.check.Goals as goal
@@ -7,17 +6,17 @@ use Rattle.bundle_layout.proofs.check.Goals as goal
 pub returns-then-b-lt2 : goal.returns-then-b-lt2
 returns-then-b-lt2 c = check-short _ (search rules)
 
-pub loop-remaining-init : goal.loop-remaining-init
-loop-remaining-init c = walking_start _ (search rules) c.word-remaining.ensures c.start-w.ensures
+pub loop-done-init : goal.loop-done-init
+loop-done-init c = walking_start _ (search rules) c.word-done-end.ensures c.start-walk.ensures
 
-pub next-w-requires : goal.next-w-requires
-next-w-requires c = (c.loop-remaining.invariant.1.room, c.loop-remaining.invariant.1.place)
+pub next-requires : goal.next-requires
+next-requires c = c.loop-done.invariant.1.place
 
-pub returns-then-not-w : goal.returns-then-not-w
-returns-then-not-w c = walking-no _ (search rules) c.next-w.ensures (not-true _ c.if-not-w.true) c.loop-remaining.invariant
+pub returns-then-is_none : goal.returns-then-is_none
+returns-then-is_none c = walking-no _ (search rules) c.loop-done.invariant _ _ c.if-is_none.ensures c.next.ensures
 
-pub loop-remaining-preserved : goal.loop-remaining-preserved
-loop-remaining-preserved c = walking_on _ (search rules) c.next-w.ensures (not-false _ c.if-not-w.false) c.loop-remaining.invariant
+pub loop-done-preserved : goal.loop-done-preserved
+loop-done-preserved c = walking_on c.args.b.now {k = c.loop-done.done} (search rules) c.loop-done.invariant _ _ c.if-is_none.ensures c.next.ensures
 
 pub returns : goal.returns
-returns c = walking-end _ (search rules) c.loop-remaining.invariant
+returns c = walking-end _ (search rules) c.loop-done.invariant

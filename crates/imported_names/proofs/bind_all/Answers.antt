@@ -13,36 +13,36 @@ item-o-requires c = meeting-at (all-next c.requires c.loop-i.invariant (search r
 pub skip-end-requires : goal.skip-end-requires
 skip-end-requires c = item_has (all_told c.requires c.loop-i.invariant (search rules) c.item-o.ensures)
 
-pub value-v-requires : goal.value-v-requires
-value-v-requires c = item_has-body (all_told c.requires c.loop-i.invariant (search rules) c.item-o.ensures)
+pub value-requires : goal.value-requires
+value-requires c = item_has-body (all_told c.requires c.loop-i.invariant (search rules) c.item-o.ensures)
 
-pub slice_bounds-bind_from-count : goal.slice_bounds-bind_from-count
-slice_bounds-bind_from-count c = let d = all_told c.requires c.loop-i.invariant (search rules) c.item-o.ensures in
+pub slice_bounds-name-count : goal.slice_bounds-name-count
+slice_bounds-name-count c = let d = all_told c.requires c.loop-i.invariant (search rules) c.item-o.ensures in
     omega (arith, d.name.ends, d.name.inside)
 
-pub slice_bounds-bind_from-start : goal.slice_bounds-bind_from-start
-slice_bounds-bind_from-start c = let d = all_told c.requires c.loop-i.invariant (search rules) c.item-o.ensures in
+pub slice_bounds-name-start : goal.slice_bounds-name-start
+slice_bounds-name-start c = let d = all_told c.requires c.loop-i.invariant (search rules) c.item-o.ensures in
     omega (arith, d.name.ends, d.name.inside)
 
-pub slice_bounds-bind_from-end : goal.slice_bounds-bind_from-end
-slice_bounds-bind_from-end c = let d = all_told c.requires c.loop-i.invariant (search rules) c.item-o.ensures in
+pub slice_bounds-name-end : goal.slice_bounds-name-end
+slice_bounds-name-end c = let d = all_told c.requires c.loop-i.invariant (search rules) c.item-o.ensures in
     omega (arith, d.name.ends, d.name.inside)
 
-pub bind_from-bound-requires : goal.bind_from-bound-requires
-bind_from-bound-requires c = (all-bindable c.requires c.loop-i.invariant (search rules), all_there c.requires c.loop-i.invariant (search rules) c.item-o.ensures _ c.value-v.ensures)
+pub bind_from-requires : goal.bind_from-requires
+bind_from-requires c = (all-bindable c.requires c.loop-i.invariant (search rules), all_there c.requires c.loop-i.invariant (search rules) c.item-o.ensures _ c.value.ensures)
 
-pub shape_of-left-in_default : goal.shape_of-left-in_default
-shape_of-left-in_default c = all-size c.requires c.loop-i.invariant (search rules) c.item-o.ensures _ c.value-v.ensures c.bind_from-bound.ensures
+pub shape_of-left-in_err-len : goal.shape_of-left-in_err-len
+shape_of-left-in_err-len c = all-size c.requires c.loop-i.invariant (search rules) c.item-o.ensures _ c.value.ensures c.bind_from.ensures
 
-pub returns-in_default : goal.returns-in_default
-returns-in_default c = all-over c.requires c.loop-i.invariant (search rules) c.item-o.ensures _ c.value-v.ensures c.bind_from-bound.ensures c.in_default.is
+pub returns-in_err-len : goal.returns-in_err-len
+returns-in_err-len c = rw c.from_residual.ensures (all-over c.requires c.loop-i.invariant (search rules) c.item-o.ensures _ c.value.ensures c.bind_from.ensures c.in_err-len.was)
 
 pub loop-i-smaller : goal.loop-i-smaller
 loop-i-smaller c = let d = all_told c.requires c.loop-i.invariant (search rules) c.item-o.ensures in
     omega (arith, d.on, c.skip-end.ensures _ _ (item_holding d))
 
 pub loop-i-preserved : goal.loop-i-preserved
-loop-i-preserved c = all-on c.requires c.loop-i.invariant (search rules) c.item-o.ensures _ c.value-v.ensures c.bind_from-bound.ensures c.in-Length.is c.skip-end.ensures
+loop-i-preserved c = all-on c.requires c.loop-i.invariant (search rules) c.item-o.ensures _ c.value.ensures c.bind_from.ensures c.in_ok-len.was c.skip-end.ensures
 
 pub shape_of-left : goal.shape_of-left
 shape_of-left c = c.loop-i.invariant.size

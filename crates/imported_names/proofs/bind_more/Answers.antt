@@ -25,18 +25,18 @@ pub span-from-requires : goal.span-from-requires
 span-from-requires c = let s = c.starts_with.ensures.there c.if-not-starts_with.false in
     search rules
 
-pub bind_later-bound-requires : goal.bind_later-bound-requires
-bind_later-bound-requires c = (word-is c.span-to.ensures, c.loop-at.invariant.ready)
+pub bind_later-requires : goal.bind_later-requires
+bind_later-requires c = (word-is c.span-to.ensures, c.loop-at.invariant.ready)
 
-pub shape_of-left-in_default : goal.shape_of-left-in_default
-shape_of-left-in_default c = c.bind_later-bound.ensures.size ∙ c.loop-at.invariant.size
+pub shape_of-left-in_err-len : goal.shape_of-left-in_err-len
+shape_of-left-in_err-len c = c.bind_later.ensures.size ∙ c.loop-at.invariant.size
 
-pub returns-in_default : goal.returns-in_default
-returns-in_default c = more-over c.loop-at.invariant c.span-comma.ensures c.starts_with.ensures c.if-not-starts_with.false c.span-from.ensures c.span-to.ensures c.bind_later-bound.ensures c.in_default.is
+pub returns-in_err-len : goal.returns-in_err-len
+returns-in_err-len c = rw c.from_residual.ensures (more-over c.loop-at.invariant c.span-comma.ensures c.starts_with.ensures c.if-not-starts_with.false c.span-from.ensures c.span-to.ensures c.bind_later.ensures c.in_err-len.was)
 
 pub loop-at-smaller : goal.loop-at-smaller
 loop-at-smaller c = let s = c.starts_with.ensures.there c.if-not-starts_with.false in
     omega (arith, c.span-comma.ensures.on, c.span-from.ensures.on, c.span-to.ensures.on, c.span-to.ensures.inside)
 
 pub loop-at-preserved : goal.loop-at-preserved
-loop-at-preserved c = more-on c.loop-at.invariant c.span-comma.ensures c.starts_with.ensures c.if-not-starts_with.false c.span-from.ensures c.span-to.ensures c.bind_later-bound.ensures c.in-Length.is
+loop-at-preserved c = more-on c.loop-at.invariant c.span-comma.ensures c.starts_with.ensures c.if-not-starts_with.false c.span-from.ensures c.span-to.ensures c.bind_later.ensures c.in_ok-len.was

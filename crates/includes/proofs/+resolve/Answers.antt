@@ -1,106 +1,63 @@
-use Rattle.std.proofs.Common.{rules}
-use Prim.Native.Nat.{ℕ}
-use mathlib.Core.Path.{◌≡◌, refl, sym, ap, ◌∙◌}
-use mathlib.Core.Bool.{false}
-use native.Mathlib.Omega.{arith}
-use borrow.Author.Tests.{not-true, not-false}
-use lib.ListN.{length}
-use lib.Seq.{length-take-le}
-use Rattle.buffers.specs.Laws.{put-writer, put-length}
-use Rattle.marks.specs.declared.read.Reading.{Reading}
-use Rattle.marks.specs.declared.read.Reading.TheVariants.{Copied, Include as Included, Source as Shown}
-use Rattle.includes.specs.Resolve.{resolving-start, resolving-full, resolving-end, resolving-refused, resolving-on, within_include, is_include, came-put, came_refused, came-inside}
+use Rattle.std.proofs.Common.{◌≡◌, Err, sym, ◌∙◌, arith}
+use Rattle.rules.specs.Reader.{bytes}
+use Rattle.rules.specs.Run.{put, ok}
+use Rattle.buffers.specs.Wrote.{wrote-fail, wrote-then, wrote-no}
+use Rattle.marks.specs.Read.{emit_of}
 use Rattle.marks.specs.Marks.{mark-some}
+use Rattle.includes.specs.Resolve.{resolving-start, resolving-full, resolving-end, resolving-refused, resolving-on}
 use Rattle.includes.proofs.+resolve.Goals as goal
-use Rattle.includes.proofs.+resolve.Goals.{in-Include+else-not-f, in_default-what}
 
-not_include : (r : Reading) → ((a b : ℕ) → r ≡ Included a b → ⊥) → is_include r ≡ false
-unfolding is_include
-not_include (Copied a b) h = refl
-not_include (Included a b) h = absurd (h a b refl)
-not_include (Shown a b c d) h = refl
+pub put_mark-returns-in_err-file-in-Include : goal.put_mark-returns-in_err-file-in-Include
+unfolding emit_of
+put_mark-returns-in_err-file-in-Include t c =
+    let gone : c.from_residual.result ≡ Err c.in_err-file-in-Include.field-0.0 = grind arith in
+    rw (c.in-Include.is, c.in_err-file-in-Include.ensures c.args.folder.now, gone) (wrote-fail _ _)
 
-pub marks-init : goal.marks-init
-marks-init t c = resolving-start _ _ _ _ c.requires.2 (c.nothing-known.ensures _)
+pub put_mark-returns-in_err-resolve-in-Include : goal.put_mark-returns-in_err-resolve-in-Include
+unfolding emit_of
+put_mark-returns-in_err-resolve-in-Include t c =
+    rw (c.in-Include.is, c.in_ok-file-in-Include.ensures.goes c.args.folder.now)
+    (wrote-no (put (bytes "\n") ok) c.in_err-resolve-in-Include.was (rw c.as_bytes.ensures at c.resolve.ensures.wrote) (grind arith))
 
-pub next_mark-next-requires : goal.next_mark-next-requires
-next_mark-next-requires t c = c.marks.invariant.inside
+pub put_mark-returns-in-Copied : goal.put_mark-returns-in-Copied
+unfolding emit_of
+put_mark-returns-in-Copied t c = rw c.in-Copied.is c.put.ensures
 
-pub put-q-requires : goal.put-q-requires
-put-q-requires t c = record { place = omega (arith, c.marks.invariant.place); fits = c.requires.1.fits }
+pub put_mark-returns-in-Source : goal.put_mark-returns-in-Source
+unfolding emit_of
+put_mark-returns-in-Source t c = rw c.in-Source.is c.put_source.ensures
 
-pub shape_of-out-then-over : goal.shape_of-out-then-over
-shape_of-out-then-over t c = put-length c.put-q.ensures ∙ c.marks.invariant.size
+pub put_mark-returns-in_ok-resolve-in-Include : goal.put_mark-returns-in_ok-resolve-in-Include
+unfolding emit_of
+put_mark-returns-in_ok-resolve-in-Include t c =
+    rw (c.in-Include.is, c.in_ok-file-in-Include.ensures.goes c.args.folder.now)
+    (wrote-then c.in_ok-resolve-in-Include.was (rw c.as_bytes.ensures at c.resolve.ensures.wrote) c.put-in-Include.ensures)
 
-pub returns-then-over : goal.returns-then-over
-returns-then-over t c = rw c.refused.ensures (resolving-full _ _ _ _ c.marks.invariant c.next_mark-next.ensures c.put-q.ensures (search rules))
+pub resolve-marks-init : goal.resolve-marks-init
+resolve-marks-init t c = record { reads = c.new-reader.ensures; resolving = resolving-start _ _ _ _ _ }
 
-pub shape_of-out-in_default : goal.shape_of-out-in_default
-shape_of-out-in_default t c = put-length c.put-q.ensures ∙ c.marks.invariant.size
+pub resolve-returns-in_err-put : goal.resolve-returns-in_err-put
+resolve-returns-in_err-put t c = resolving-full _ _ _ _ c.marks.invariant.resolving c.next_mark-next.ensures c.put.ensures c.in_err-put.was (grind arith)
 
-pub returns-in_default : goal.returns-in_default
-returns-in_default t c = rw c.finished.ensures (resolving-end _ _ _ _ c.marks.invariant c.next_mark-next.ensures c.put-q.ensures (search rules) c.in_default.is)
+pub resolve-returns-in_default : goal.resolve-returns-in_default
+resolve-returns-in_default t c = resolving-end _ _ _ _ c.marks.invariant.resolving c.next_mark-next.ensures c.put.ensures c.in_ok-put.was c.in_default.is
 
-pub read_mark-r-requires : goal.read_mark-r-requires
-read_mark-r-requires t c = (c.next_mark-next.ensures.before.on, c.next_mark-next.ensures.before.inside, sym c.in-Mark.is ∙ c.next_mark-next.ensures.there, c.marks.invariant.knows)
+pub resolve-read-read-requires : goal.resolve-read-read-requires
+resolve-read-read-requires t c = rw c.marks.invariant.reads (c.next_mark-next.ensures.before.on, c.next_mark-next.ensures.before.inside, sym c.in-Some.is ∙ c.next_mark-next.ensures.there)
 
-pub put_read-w-requires : goal.put_read-w-requires
-put_read-w-requires t c = (c.requires.0, put-writer c.put-q.ensures (record { place = omega (arith, c.marks.invariant.place); fits = c.requires.1.fits }), search rules, omega (arith, put-length c.put-q.ensures, c.marks.invariant.size, c.requires.3), c.read_mark-r.ensures.parts)
+pub resolve-returns-in_err-put_mark : goal.resolve-returns-in_err-put_mark
+resolve-returns-in_err-put_mark t c = resolving-refused _ _ _ _ c.marks.invariant.resolving c.next_mark-next.ensures c.put.ensures c.in_ok-put.was c.in-Some.mark (rw c.marks.invariant.reads at c.read-read.ensures.reads) c.put_mark.ensures c.in_err-put_mark.was (grind arith)
 
-pub slice_bounds-open_file-count : goal.slice_bounds-open_file-count
-slice_bounds-open_file-count t c = let h = within_include _ c.read_mark-r.ensures.parts c.in-Include.is in search rules
+pub resolve-marks-smaller : goal.resolve-marks-smaller
+resolve-marks-smaller t c =
+    let n = c.next_mark-next.ensures.before.on in
+    let r = rw c.marks.invariant.reads at c.read-read.ensures.reads in
+    let o = r.on in
+    let i = r.inside in
+    omega (arith, mark-some c.in-Some.mark)
 
-pub slice_bounds-open_file-start : goal.slice_bounds-open_file-start
-slice_bounds-open_file-start t c = let h = within_include _ c.read_mark-r.ensures.parts c.in-Include.is in search rules
-
-pub slice_bounds-open_file-end : goal.slice_bounds-open_file-end
-slice_bounds-open_file-end t c = let h = within_include _ c.read_mark-r.ensures.parts c.in-Include.is in search rules
-
-pub open_file-f-requires : goal.open_file-f-requires
-open_file-f-requires t c = c.requires.0
-
-pub shape_of-out-then-not-f : goal.shape_of-out-then-not-f
-shape_of-out-then-not-f t c = c.put_read-w.ensures.size ∙ put-length c.put-q.ensures ∙ c.marks.invariant.size
-
-pub returns-then-not-f : goal.returns-then-not-f
-returns-then-not-f t c = rw c.refused-then-not-f.ensures (resolving-refused _ _ _ _ c.marks.invariant c.next_mark-next.ensures c.put-q.ensures (omega (arith, c.if-over.false)) c.in-Mark.mark c.read_mark-r.ensures (came_refused _ c.put_read-w.ensures c.in-Include.is c.open_file-f.ensures {q = 0} (not-true _ c.if-not-f.true)) refl)
-
-pub slice_bounds-bytes-end : goal.slice_bounds-bytes-end
-slice_bounds-bytes-end t c = c.open_file-f.ensures.short
-
-pub slice_bounds-its_folder-end : goal.slice_bounds-its_folder-end
-slice_bounds-its_folder-end t c = sym (length-take-le _ _ c.open_file-f.ensures.short)
-
-pub overflow_sub-levels : goal.overflow_sub-levels
-overflow_sub-levels t c = let h = c.open_file-f.ensures.left (not-false _ c.if-not-f.false) in search rules
-
-pub resolve-i-requires : goal.resolve-i-requires
-resolve-i-requires t c = let h = c.open_file-f.ensures.left (not-false _ c.if-not-f.false) in
-    (omega (arith, c.requires.0, h), (c.requires.0, put-writer c.put-q.ensures (record { place = omega (arith, c.marks.invariant.place); fits = c.requires.1.fits }), omega (arith, c.if-over.false), omega (arith, c.put_read-w.ensures.size, put-length c.put-q.ensures, c.marks.invariant.size, c.requires.3)))
-
-pub put_newline-w-requires : goal.put_newline-w-requires
-put_newline-w-requires t c = λ z. record { place = omega (arith, (c.resolve-i.ensures.emits.goes z).fits); fits = c.requires.1.fits }
-
-pub shape_of-out-then-not-w : goal.shape_of-out-then-not-w
-shape_of-out-then-not-w t c = elim c.match-what.branch [
-  | in-Include+else-not-f w ↦ ap length w.out-is ∙ w.put_newline-w.ensures.size ∙ w.resolve-i.ensures.emits.size
-  | in_default-what w ↦ ap length w.out-is
-] ∙ c.put_read-w.ensures.size ∙ put-length c.put-q.ensures ∙ c.marks.invariant.size
-
-pub returns-then-not-w : goal.returns-then-not-w
-returns-then-not-w t c = rw c.refused-then-not-w.ensures (resolving-refused _ _ _ _ c.marks.invariant c.next_mark-next.ensures c.put-q.ensures (search rules) c.in-Mark.mark c.read_mark-r.ensures {fine = c.match-what.w.ok} {u = c.match-what.w.next} (elim c.match-what.branch [
-  | in-Include+else-not-f w ↦ came-inside _ c.put_read-w.ensures w.in-Include.is w.open_file-f.ensures (omega (arith, c.if-over.false)) (not-false _ w.if-not-f.false) w.resolve-i.ensures w.put_newline-w.ensures w.out-is w.w-is
-  | in_default-what w ↦ came-put _ c.put_read-w.ensures (not_include _ w.in_default-what.not-Include) w.out-is w.w-is
-]) (not-true _ c.if-not-w.true))
-
-pub marks-smaller : goal.marks-smaller
-marks-smaller t c = let n = c.next_mark-next.ensures.before.on in
-    let o = c.read_mark-r.ensures.on in
-    let i = c.read_mark-r.ensures.inside in
-    omega (arith, mark-some c.in-Mark.mark)
-
-pub marks-preserved : goal.marks-preserved
-marks-preserved t c = resolving-on _ _ _ _ c.marks.invariant c.next_mark-next.ensures c.put-q.ensures (search rules) c.in-Mark.mark c.read_mark-r.ensures {fine = c.match-what.w.ok} {o = c.match-what.w.number} (elim c.match-what.branch [
-  | in-Include+else-not-f w ↦ came-inside _ c.put_read-w.ensures w.in-Include.is w.open_file-f.ensures (omega (arith, c.if-over.false)) (not-false _ w.if-not-f.false) w.resolve-i.ensures w.put_newline-w.ensures w.out-is w.w-is
-  | in_default-what w ↦ came-put _ c.put_read-w.ensures (not_include _ w.in_default-what.not-Include) w.out-is w.w-is
-]) (not-false _ c.if-not-w.false)
+pub resolve-marks-preserved : goal.resolve-marks-preserved
+resolve-marks-preserved t c = record {
+  reads = c.read-read.ensures.same ∙ c.marks.invariant.reads;
+  resolving = resolving-on _ _ _ _ c.marks.invariant.resolving c.next_mark-next.ensures c.put.ensures c.in_ok-put.was c.in-Some.mark (rw c.marks.invariant.reads at c.read-read.ensures.reads) c.put_mark.ensures c.in_ok-put_mark.was;
+}

@@ -1,4 +1,5 @@
-use Prim.Native.Nat.{◌-◌}
+use Rattle.std.proofs.Common.{◌≡◌}
+use Prim.Native.Nat.{◌+◌, ◌-◌, ◌*◌}
 use lib.ListN.{length}
 use Rattle.rules.specs.Files.{view}
 use Rattle.rules.specs.Includes.{inside_file}
@@ -6,11 +7,14 @@ use Rattle.bundle.specs.Find.{entries_of}
 use Rattle.includes.specs.Resolve.{Resolving}
 use Rattle.includes.proofs.+resolve.Given as goal
 
+abbrev pub decreases-put_mark : goal.decreases-put_mark
+decreases-put_mark l = 2 * l.levels
+
 abbrev pub decreases-resolve : goal.decreases-resolve
-decreases-resolve l = l.levels
+decreases-resolve l = 2 * l.levels + 1
 
-abbrev pub invariant-marks : goal.invariant-marks
-invariant-marks l = Resolving (view (entries_of l.b)) (inside_file (view (entries_of l.b)) l.levels) l.folder l.text l.full l.room l.initial.out l.p l.out l.done l.q l.whole l.known
+abbrev pub invariant-resolve-marks : goal.invariant-resolve-marks
+invariant-resolve-marks l = record { reads : l.reader ≡ l.text; resolving : Resolving (view (entries_of l.b)) (inside_file (view (entries_of l.b)) l.levels) l.folder l.text l.initial.w l.w l.done l.whole }
 
-abbrev pub decreases-marks : goal.decreases-marks
-decreases-marks l = length l.text - l.done
+abbrev pub decreases-resolve-marks : goal.decreases-resolve-marks
+decreases-resolve-marks l = length l.text - l.done

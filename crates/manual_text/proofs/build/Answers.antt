@@ -1,21 +1,21 @@
-use Rattle.std.proofs.Common.{rules}
-use mathlib.Core.Path.{sym}
-use native.Mathlib.Omega.{arith}
-use lib.Seq.{length-take-le}
-use Rattle.manual_text.specs.Text.{builds-refused, builds-same, built-long, built-refused, built_main, sheet-fits}
+use Rattle.std.proofs.Common.{refl, rules, sym, length-take-le}
+use Rattle.manual_text.specs.Text.{builds-refused, builds-same, built-long, defined-known, built-refused, built_main, sheet-fits}
 use Rattle.manual_text.proofs.build.Goals as goal
 
 pub returns-then-bundle-gt16384 : goal.returns-then-bundle-gt16384
-returns-then-bundle-gt16384 c = builds-refused (built-long _ (search rules)) (λ z. omega arith)
+returns-then-bundle-gt16384 c = builds-refused refl (built-long _ c.if-bundle-gt16384.true)
 
-pub returns-then-d-ne0 : goal.returns-then-d-ne0
-returns-then-d-ne0 c = builds-refused (built-refused _ (search rules) c.sheet_buffer-sheet.ensures c.work_buffer-work.ensures c.parse_definitions-d.ensures c.if-d-ne0.true) c.if-d-ne0.true
+pub check-requires : goal.check-requires
+check-requires c = defined-known _ (search rules) (search rules) (search rules) c.parse_definitions-d.ensures
+
+pub returns-in-Err : goal.returns-in-Err
+returns-in-Err c = builds-refused refl (built-refused _ (search rules) (search rules) (search rules) c.parse_definitions-d.ensures _ c.in-Err.ensures)
 
 pub slice_bounds-sheet-end : goal.slice_bounds-sheet-end
-slice_bounds-sheet-end c = sheet-fits _ (search rules) c.sheet_buffer-sheet.ensures c.work_buffer-work.ensures c.parse_definitions-d.ensures
+slice_bounds-sheet-end c = sheet-fits _ (search rules) (search rules) (search rules) c.parse_definitions-d.ensures
 
 pub slice_bounds-pass_main-end : goal.slice_bounds-pass_main-end
-slice_bounds-pass_main-end c = sym (length-take-le _ _ (sheet-fits _ (search rules) c.sheet_buffer-sheet.ensures c.work_buffer-work.ensures c.parse_definitions-d.ensures))
+slice_bounds-pass_main-end c = sym (length-take-le _ _ (sheet-fits _ (search rules) (search rules) (search rules) c.parse_definitions-d.ensures))
 
-pub returns : goal.returns
-returns c = builds-same (built_main _ (search rules) c.sheet_buffer-sheet.ensures c.work_buffer-work.ensures c.parse_definitions-d.ensures (search rules)) c.pass_main.ensures
+pub returns-in-Ok : goal.returns-in-Ok
+returns-in-Ok c = builds-same (built_main _ (search rules) (search rules) (search rules) c.parse_definitions-d.ensures c.in-Ok.ensures) c.pass_main.ensures

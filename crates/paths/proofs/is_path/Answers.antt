@@ -1,15 +1,15 @@
 use Rattle.std.proofs.Common.{rules}
-use Rattle.paths.specs.Paths.{path-long, reading-start, reading-on, reading-end}
+use mathlib.Core.Path.{ap, ◌∙◌}
+use borrow.Author.Tests.{tests}
+use Rattle.std.proofs.lemmas.Bool.{lt-leb}
+use Rattle.std.proofs.lemmas.Iterator.{YieldsList-from_slice}
+use Rattle.std.proofs.lemmas.Iterator.Consumers.{fold_from_yields_List}
+use Rattle.paths.specs.declared.Segment.TheVariants.{Empty}
+use Rattle.paths.specs.Paths.{step, whole, path-fold, path-long}
 use Rattle.paths.proofs.is_path.Goals as goal
 
-pub returns-then-p-gt255 : goal.returns-then-p-gt255
-returns-then-p-gt255 c = path-long _ (search rules)
+pub returns-then-p-le255 : goal.returns-then-p-le255
+returns-then-p-le255 c = c.whole.ensures ∙ ap whole (fold_from_yields_List _ step Empty _ c.fold.ensures.ran (YieldsList-from_slice c.args.p.now cc) (λ s x r q k. search (rules, tests))) ∙ path-fold _ (search rules)
 
-pub loop-i-init : goal.loop-i-init
-loop-i-init c = reading-start _ (search rules)
-
-pub loop-i-preserved : goal.loop-i-preserved
-loop-i-preserved c = reading-on c.loop-i.invariant (search rules) c.step-s.ensures
-
-pub returns : goal.returns
-returns c = reading-end c.loop-i.invariant (search rules) c.whole.ensures
+pub returns-else-p-le255 : goal.returns-else-p-le255
+returns-else-p-le255 c = lt-leb _ _ (search rules) ∙ path-long _ (search rules)

@@ -1,20 +1,27 @@
-use Rattle.std.proofs.Common.{rules}
-use mathlib.Core.Path.{refl}
-use native.Mathlib.Omega.{arith}
-use Rattle.paths.specs.Paths.{copied-start, copied_on, joins-over, joins-all}
+use Rattle.std.proofs.Common.{◌≡◌, ℕ, ◌<◌, ◌++◌, length, ap, ◌∙◌, arith, length-append}
+use Rattle.rules.specs.Bytes.{join}
+use Rattle.paths.specs.Joined.{text, join-top, join-below, join-length}
 use Rattle.paths.proofs.join.Goals as goal
+use Rattle.paths.proofs.join.Goals.{then-folder-ne0+in_ok-push+in_ok-push-2, else-folder-ne0}
 
-pub returns-then-over : goal.returns-then-over
-returns-then-over c = joins-over _ _ _ c.joined_len-len.ensures _ refl (search rules)
+pub returns-in_err-push : goal.returns-in_err-push
+returns-in_err-push c = rw c.from_residual.ensures (let h = rw c.empty-joined.ensures at c.in_err-push.ensures in omega (arith, join-length c.args.folder.now c.args.path.now c.if-folder-ne0.true))
 
-pub loop-i-init : goal.loop-i-init
-loop-i-init c = copied-start _ _ _ refl
+pub returns-in_err-push-2 : goal.returns-in_err-push-2
+returns-in_err-push-2 c = rw c.from_residual-in_err-push-2.ensures (let h = rw (c.in_ok-push.ensures, c.empty-joined.ensures) at c.in_err-push-2.ensures in omega (arith, length-append {A = ℕ}, join-length c.args.folder.now c.args.path.now c.if-folder-ne0.true))
 
-pub joined_byte-requires : goal.joined_byte-requires
-joined_byte-requires c = omega (arith, c.joined_len-len.ensures.fits (search rules))
-
-pub loop-i-preserved : goal.loop-i-preserved
-loop-i-preserved c = copied_on c.loop-i.invariant (search rules) (c.joined_len-len.ensures.fits (search rules)) (search rules) c.joined_byte.ensures
+pub returns-in_err-push-3 : goal.returns-in_err-push-3
+returns-in_err-push-3 c =
+    let h : 255 < length (text c.if-folder-ne0.joined ++ c.args.path.now) = c.in_err-push-3.ensures in
+    let e : text c.if-folder-ne0.joined ++ c.args.path.now ≡ join c.args.folder.now c.args.path.now =
+    elim c.if-folder-ne0.branch [
+      | then-folder-ne0+in_ok-push+in_ok-push-2 w ↦ rw (w.joined-is, w.in_ok-push-2.ensures, w.in_ok-push.ensures, c.empty-joined.ensures) (join-below _ _ w.if-folder-ne0.true)
+      | else-folder-ne0 w ↦ rw (w.joined-is, c.empty-joined.ensures) (join-top _ _ w.if-folder-ne0.false)
+    ]
+    in rw c.from_residual-in_err-push-3.ensures (omega (arith, ap length e))
 
 pub returns : goal.returns
-returns c = joins-all _ _ _ c.joined_len-len.ensures _ _ (search rules) (search rules) c.loop-i.invariant
+returns c = c.in_ok-push-3.ensures ∙ elim c.if-folder-ne0.branch [
+  | then-folder-ne0+in_ok-push+in_ok-push-2 w ↦ rw (w.joined-is, w.in_ok-push-2.ensures, w.in_ok-push.ensures, c.empty-joined.ensures) (join-below _ _ w.if-folder-ne0.true)
+  | else-folder-ne0 w ↦ rw (w.joined-is, c.empty-joined.ensures) (join-top _ _ w.if-folder-ne0.false)
+]

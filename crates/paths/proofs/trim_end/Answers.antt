@@ -1,16 +1,17 @@
 use Rattle.std.proofs.Common.{rules}
-use mathlib.Core.Path.{sym, ◌∙◌}
-use Rattle.paths.specs.Paths.{trimming-start, trimming-blank, trimming-stop, trimming-none}
+use mathlib.Core.Path.{◌∙◌}
+use borrow.Author.Tests.{tests}
+use Rattle.std.specs.Prelude.{reverse}
+use Rattle.std.proofs.lemmas.Iterator.Adapters.{YieldsList-from_rev_slice}
+use Rattle.std.proofs.lemmas.Iterator.Search.{YieldsList-from_take_while}
+use Rattle.std.proofs.lemmas.Iterator.Consumers.{count_from_yields_List}
+use Rattle.std.proofs.lemmas.List.Folds.{length-prefix_len}
+use Rattle.rules.specs.Bytes.{blank}
+use Rattle.paths.specs.Paths.{trims-end}
 use Rattle.paths.proofs.trim_end.Goals as goal
 
-pub loop-n-init : goal.loop-n-init
-loop-n-init c = trimming-start _
-
-pub returns-then-not-member : goal.returns-then-not-member
-returns-then-not-member c = trimming-stop c.loop-n.invariant (search rules) (sym c.member.ensures ∙ c.if-not-member.true)
-
-pub loop-n-preserved : goal.loop-n-preserved
-loop-n-preserved c = trimming-blank c.loop-n.invariant (search rules) (sym c.member.ensures ∙ c.if-not-member.false)
-
 pub returns : goal.returns
-returns c = trimming-none c.loop-n.invariant (search rules)
+returns c =
+    let t = c.args.text.now in
+    let n = count_from_yields_List c.take_while.result _ c.count.ensures.ran (YieldsList-from_take_while _ blank (YieldsList-from_rev_slice t cc) c.take_while.ensures.closure c.take_while.ensures.done (λ x b q k. search (rules, tests))) ∙ length-prefix_len blank (reverse t) in
+    rw n (trims-end t)

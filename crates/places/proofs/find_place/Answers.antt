@@ -29,18 +29,18 @@ slice_bounds-order-end c = let k = standing (c.loop-i.invariant _ c.requires.mar
     let d = c.item-o.ensures _ _ _ _ k.part in
     omega (arith, d.name.ends, d.name.inside)
 
-pub returns-then-c-eq1 : goal.returns-then-c-eq1
-returns-then-c-eq1 c = λ r p.
+pub returns-in-Equal : goal.returns-in-Equal
+returns-in-Equal c = λ r p.
     let k = standing (c.loop-i.invariant r p) (search rules) in
     let d = c.item-o.ensures _ _ _ _ k.part in
     let e = c.skip-e.ensures _ _ (item_holding d) in
-    place_same k d.name c.order-c.ensures (item_rest d e) (omega (arith, d.on, e)) c.if-c-eq1.true
+    place_same k d.name c.order.ensures (item_rest d e) (omega (arith, d.on, e)) c.in-Equal.is
 
-pub returns-then-c-eq2 : goal.returns-then-c-eq2
-returns-then-c-eq2 c = λ r p.
+pub returns-in-Greater : goal.returns-in-Greater
+returns-in-Greater c = λ r p.
     let k = standing (c.loop-i.invariant r p) (search rules) in
     let d = c.item-o.ensures _ _ _ _ k.part in
-    place-below k d.name c.order-c.ensures c.if-c-eq2.true
+    place-below k d.name c.order.ensures c.in-Greater.is
 
 pub loop-i-smaller : goal.loop-i-smaller
 loop-i-smaller c = let k = standing (c.loop-i.invariant _ c.requires.marked) (search rules) in
@@ -52,7 +52,7 @@ loop-i-preserved c = λ r p.
     let k = standing (c.loop-i.invariant r p) (search rules) in
     let d = c.item-o.ensures _ _ _ _ k.part in
     let e = c.skip-e.ensures _ _ (item_holding d) in
-    place-on k d.name c.order-c.ensures (item_rest d e) (omega (arith, d.on, e)) c.if-c-eq1.false c.if-c-eq2.false
+    place-on k d.name c.order.ensures (item_rest d e) (omega (arith, d.on, e)) c.in-Less.is
 
 pub returns : goal.returns
 returns c = λ r p. place_end (c.loop-i.invariant r p) (search rules)

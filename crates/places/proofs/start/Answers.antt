@@ -1,5 +1,7 @@
 use Rattle.std.proofs.Common.{rules}
+use mathlib.Core.Path.{◌∙◌, sym}
 use native.Mathlib.Omega.{arith}
+use Rattle.std.proofs.lemmas.Cmp.{is_gt_index}
 use Rattle.places.specs.Place.{place-start}
 use Rattle.places.specs.Mark.{there, there-at, place-there}
 use Rattle.places.proofs.start.Goals as goal
@@ -32,4 +34,4 @@ pub returns : goal.returns
 returns c = λ r m.
     let k = there m (search rules) in
     let d = c.item-o.ensures _ _ _ _ k.part in
-    place-there (m.order c.if-last-eq0.false) k d.name c.order-behind.ensures c.if-behind.false
+    place-there (m.order c.if-last-eq0.false) k d.name c.order.ensures (is_gt_index _ ∙ sym c.eq-behind.ensures ∙ c.if-behind.false)

@@ -2,7 +2,7 @@ use Rattle.std.proofs.Common.{rules}
 use native.Mathlib.Omega.{arith}
 use lib.ListN.{length-take, length-drop}
 use Rattle.strings.specs.Paths.{path-in}
-use Rattle.raw_content.specs.Content.{read_back, read-file}
+use Rattle.raw_content.specs.Content.{in-bundle, read_back, read-file}
 use Rattle.scan.specs.Stretches.{spans-but}
 use Rattle.raw_content.proofs.read_call.Goals as goal
 
@@ -25,7 +25,7 @@ pub find-j-requires : goal.find-j-requires
 find-j-requires c = let h = c.at.ensures.there c.if-not-at.false in omega (arith, simp (length-take, length-drop) at (c.expression-r.ensures c.requires.2).inside)
 
 pub file_content-requires : goal.file_content-requires
-file_content-requires c = (omega (arith, (c.open_path-f.ensures _ (path-in (search rules) (c.expression-r.ensures c.requires.2))).inside), c.requires.3)
+file_content-requires c = (in-bundle c.args.b.now _ _ (c.open_path-f.ensures _ (path-in (search rules) (c.expression-r.ensures c.requires.2))), c.requires.3)
 
 pub returns : goal.returns
 returns c = λ s. read-file _ _ _ c.span-i.ensures c.at.ensures c.if-not-at.false (c.expression-r.ensures s) (spans-but ")" c.find-j.ensures) c.skip-next.ensures _ (c.open_path-f.ensures _ (path-in (search rules) (c.expression-r.ensures s))) c.file_content.ensures

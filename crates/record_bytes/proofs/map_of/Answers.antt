@@ -4,5 +4,5 @@ use Rattle.record_bytes.proofs.map_of.Goals as goal
 pub returns-then-name-eq0 : goal.returns-then-name-eq0
 returns-then-name-eq0 c = map-plain _ _ c.if-name-eq0.true
 
-pub returns : goal.returns
-returns c = map-named _ c.requires c.if-name-eq0.false
+pub returns-else-name-eq0 : goal.returns-else-name-eq0
+returns-else-name-eq0 c = map-named _ c.requires c.if-name-eq0.false

@@ -1,13 +1,7 @@
-use Rattle.std.proofs.Common.{◌≡◌}
-use mathlib.Core.Path.{◌≡◌}
-use Prim.Native.Nat.{◌≤◌, ◌-◌, ◌+◌}
-use lib.ListN.{length, drop}
+use Rattle.std.proofs.Common.{◌≡◌, ◌+◌, length, drop}
 use lib.Seq.{sets}
 use Rattle.sheet.specs.Order.{underscored_if}
 use Rattle.record_bytes.proofs.put_name.Given as goal
 
 abbrev pub invariant-loop-i : goal.invariant-loop-i
-invariant-loop-i l = (l.i ≤ length l.name) × (length l.buf ≡ length l.initial.buf) × (sets l.buf (l.at + l.i) (drop l.i (underscored_if l.reference l.name)) ≡ sets l.initial.buf l.at (underscored_if l.reference l.name))
-
-abbrev pub decreases-loop-i : goal.decreases-loop-i
-decreases-loop-i l = length l.name - l.i
+invariant-loop-i l = (length l.buf ≡ length l.initial.buf) × (sets l.buf (l.at + l.i) (drop l.i (underscored_if l.reference l.name)) ≡ sets l.initial.buf l.at (underscored_if l.reference l.name))

@@ -6,5 +6,5 @@ use Rattle.record_bytes.proofs.sized.Goals as goal
 pub returns-then-n-eq0 : goal.returns-then-n-eq0
 returns-then-n-eq0 c = sym (wide-zero _ c.if-n-eq0.true)
 
-pub returns : goal.returns
-returns c = omega (arith, wide-some _ c.if-n-eq0.false)
+pub returns-else-n-eq0 : goal.returns-else-n-eq0
+returns-else-n-eq0 c = omega (arith, wide-some _ c.if-n-eq0.false)

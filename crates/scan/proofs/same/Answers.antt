@@ -1,5 +1,6 @@
-use Rattle.scan.specs.Laws.{same_of}
+use mathlib.Core.Path.{◌∙◌}
+use Rattle.scan.proofs.Library.{same-is}
 use Rattle.scan.proofs.same.Goals as goal
 
 pub returns : goal.returns
-returns c = same_of _ _ c.starts_with.ensures
+returns c = c.eq.ensures ∙ same-is _ _

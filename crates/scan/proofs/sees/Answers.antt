@@ -1,9 +1,7 @@
 use Rattle.std.proofs.Common.{rules}
-use Rattle.scan.specs.Laws.{sees-is, sees-end}
+use borrow.Author.Tests.{tests}
+use Rattle.scan.proofs.Library.{get-sees}
 use Rattle.scan.proofs.sees.Goals as goal
 
-pub returns-then-at-text : goal.returns-then-at-text
-returns-then-at-text c = sees-is _ _ _ (search rules) c.member.ensures
-
-pub returns-else-at-text : goal.returns-else-at-text
-returns-else-at-text c = sees-end _ _ _ (search rules)
+pub returns : goal.returns
+returns c = get-sees _ _ _ c.get.result _ c.get.ensures.lookup c.is_some_and.ensures (λ x q. search (rules, tests))

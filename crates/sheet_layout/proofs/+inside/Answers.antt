@@ -4,29 +4,29 @@ use native.Mathlib.Omega.{arith}
 use Rattle.sheet_layout.specs.Check.{body_flat, body-none, running-start, running-end, running-broken, running_bad, running-on, entered, within}
 use Rattle.sheet_layout.proofs.+inside.Goals as goal
 
-pub returns-then-kind-ne3 : goal.returns-then-kind-ne3
-returns-then-kind-ne3 t c = body_flat _ _ _ _ _ c.if-kind-ne3.true (search rules)
+pub returns-in_default : goal.returns-in_default
+returns-in_default t c = body_flat _ _ _ _ _ c.in_default.not-Dictionary (search rules)
 
 pub returns-then-levels-eq0 : goal.returns-then-levels-eq0
-returns-then-levels-eq0 t c = body-none _ _ _ _ _ c.if-kind-ne3.false c.if-levels-eq0.true
+returns-then-levels-eq0 t c = body-none _ _ _ _ _ c.in-Dictionary.is c.if-levels-eq0.true
 
-pub loop-remaining-init : goal.loop-remaining-init
-loop-remaining-init t c = running-start _ _ _ _ (search rules) c.if-levels-eq0.false
+pub loop-init : goal.loop-init
+loop-init t c = running-start _ _ _ _ (search rules) c.if-levels-eq0.false
 
 pub entry-requires : goal.entry-requires
-entry-requires t c = (refl, c.loop-remaining.invariant.named)
+entry-requires t c = (refl, c.loop.invariant.named)
 
-pub returns-in_default : goal.returns-in_default
-returns-in_default t c = running-broken c.loop-remaining.invariant _ c.if-kind-ne3.false (search rules) c.entry.ensures c.in_default.is
+pub returns-in_err-held : goal.returns-in_err-held
+returns-in_err-held t c = rw c.from_residual.ensures (running-broken c.loop.invariant _ c.in-Dictionary.is (omega arith) c.in_err-held.ensures)
 
 pub inside-requires : goal.inside-requires
-inside-requires t c = (omega arith, (entered (within 0) _ _ _ _ c.entry.ensures _ c.in-Record.is).inside)
+inside-requires t c = (omega arith, (entered (within 0) _ _ _ _ _ c.in_ok-held.ensures).inside)
 
-pub returns-in_default-inside : goal.returns-in_default-inside
-returns-in_default-inside t c = running_bad c.loop-remaining.invariant _ c.if-kind-ne3.false (search rules) c.entry.ensures _ c.in-Record.is c.inside.ensures c.in_default-inside.is
+pub returns-in_err-i : goal.returns-in_err-i
+returns-in_err-i t c = rw c.from_residual-in_err-i.ensures (running_bad c.loop.invariant _ c.in-Dictionary.is (omega arith) _ c.in_ok-held.ensures c.in_err-i.ensures)
 
-pub loop-remaining-preserved : goal.loop-remaining-preserved
-loop-remaining-preserved t c = running-on c.loop-remaining.invariant _ c.if-kind-ne3.false (search rules) c.entry.ensures _ c.in-Record.is c.inside.ensures c.in-At.is
+pub loop-preserved : goal.loop-preserved
+loop-preserved t c = running-on c.loop.invariant _ c.in-Dictionary.is (omega arith) _ c.in_ok-held.ensures _ (omega arith) c.in_ok-i.ensures
 
 pub returns : goal.returns
-returns t c = running-end c.loop-remaining.invariant _ c.if-kind-ne3.false (search rules)
+returns t c = running-end c.loop.invariant _ c.in-Dictionary.is (omega arith)

@@ -2,17 +2,14 @@ use mathlib.Core.Path.{sym, ◌∙◌}
 use Rattle.sheet_layout.specs.Check.{in-sheet, enters-broken, enters-in, enters-not}
 use Rattle.sheet_layout.proofs.entry.Goals as goal
 
-pub read-requires : goal.read-requires
-read-requires c = c.requires.0
-
-pub returns-in_default : goal.returns-in_default
-returns-in_default c = enters-broken _ _ c.read.ensures _ _ c.in_default.is
+pub returns-in_err-o : goal.returns-in_err-o
+returns-in_err-o c = rw c.from_residual.ensures (enters-broken _ _ _ _ c.in_err-o.ensures)
 
 pub keeps_rules-requires : goal.keeps_rules-requires
-keeps_rules-requires c = (in-sheet _ _ c.read.ensures c.in-Record.is, c.requires.1)
+keeps_rules-requires c = (in-sheet _ _ _ c.in_ok-o.ensures, c.requires.1)
 
-pub returns-then-keeps_rules : goal.returns-then-keeps_rules
-returns-then-keeps_rules c = enters-in _ _ c.read.ensures _ _ _ c.in-Record.is (sym c.keeps_rules.ensures ∙ c.if-keeps_rules.true)
+pub returns-then-not-keeps_rules : goal.returns-then-not-keeps_rules
+returns-then-not-keeps_rules c = enters-not _ _ _ _ _ c.in_ok-o.ensures (sym c.keeps_rules.ensures ∙ c.if-not-keeps_rules.true)
 
 pub returns : goal.returns
-returns c = enters-not _ _ c.read.ensures _ _ _ c.in-Record.is (sym c.keeps_rules.ensures ∙ c.if-keeps_rules.false)
+returns c = enters-in _ _ _ _ _ c.in_ok-o.ensures (sym c.keeps_rules.ensures ∙ c.if-not-keeps_rules.false)

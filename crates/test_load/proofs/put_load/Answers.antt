@@ -1,19 +1,16 @@
-use Rattle.std.proofs.Common.{rules}
-use Rattle.std.proofs.Common.{rules}
-use Rattle.test_load.specs.Laws.{loading-starts, loading-goes, loading-ends, loading-writer, loading-size}
+use Rattle.std.proofs.Common.{rules, arith}
+use Rattle.std.proofs.Math.ListN.{get_or-map}
+use Rattle.test_load.specs.Laws.{loading-starts, loading-goes, loading-ends, loading-writer}
 use Rattle.test_load.proofs.put_load.Goals as goal
 
-pub loop-left-init : goal.loop-left-init
-loop-left-init c = loading-starts _ _ _ (search rules) c.draw-first.ensures.0 c.draw-first.ensures.1
+pub pieces-init : goal.pieces-init
+pieces-init c = loading-starts _ _ _ (search rules) (omega arith) c.draw-count.ensures.value c.draw-count.ensures.state
 
-pub put_piece-p-requires : goal.put_piece-p-requires
-put_piece-p-requires c = (loading-writer _ _ _ (search rules) c.loop-left.invariant, c.draw-d.ensures.2, c.requires)
+pub put-p-requires : goal.put-p-requires
+put-p-requires c = loading-writer _ _ _ (search rules) c.pieces.invariant
 
-pub loop-left-preserved : goal.loop-left-preserved
-loop-left-preserved c = loading-goes _ _ _ _ c.loop-left.invariant (search rules) c.draw-d.ensures.0 c.draw-d.ensures.1 c.put_piece-p.ensures
-
-pub shape_of-out : goal.shape_of-out
-shape_of-out c = loading-size _ _ _ c.loop-left.invariant
+pub pieces-preserved : goal.pieces-preserved
+pieces-preserved c = loading-goes _ _ _ c.pieces.invariant c.pieces-test.true c.draw-k.ensures.value (get_or-map _ c.args.pieces c.draw-k.result _) c.draw-k.ensures.state c.put-p.ensures
 
 pub returns : goal.returns
-returns c = loading-ends _ _ _ _ c.loop-left.invariant (search rules)
+returns c = loading-ends _ _ _ c.pieces.invariant (omega arith)

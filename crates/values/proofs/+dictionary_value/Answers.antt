@@ -59,21 +59,21 @@ dictionary-returns-then-not-v t c = entering-no _ _ c.loop-work.invariant c.span
 pub dictionary-overflow_add-end : goal.dictionary-overflow_add-end
 dictionary-overflow_add-end t c = omega (arith, c.value-v.ensures.fits, c.requires.1.most)
 
-pub dictionary-bind_behind-o-requires : goal.dictionary-bind_behind-o-requires
-dictionary-bind_behind-o-requires t c = (entry-bindable _ _ c.loop-work.invariant c.span-j.ensures c.sees.ensures c.if-not-sees.false c.span-k.ensures c.span-c.ensures (entering-two c.requires.1 c.if-levels-eq0.false c.loop-work.invariant) c.value-v.ensures c.requires.2 c.own_room-room.ensures c.requires.1.most, entry-mark _ _ c.loop-work.invariant c.span-j.ensures c.sees.ensures c.if-not-sees.false c.span-k.ensures c.span-c.ensures (entering-two c.requires.1 c.if-levels-eq0.false c.loop-work.invariant) c.value-v.ensures c.requires.2, omega (arith, c.own_room-room.ensures), omega arith, entry-end _ _ c.loop-work.invariant c.span-j.ensures c.sees.ensures c.if-not-sees.false c.span-k.ensures c.span-c.ensures (entering-two c.requires.1 c.if-levels-eq0.false c.loop-work.invariant) c.value-v.ensures, entry-source _ _ c.loop-work.invariant c.span-j.ensures c.sees.ensures c.if-not-sees.false c.span-k.ensures c.span-c.ensures (entering-two c.requires.1 c.if-levels-eq0.false c.loop-work.invariant) c.value-v.ensures c.requires.2 (not-false _ c.if-not-v.false))
+pub dictionary-bind_behind-requires : goal.dictionary-bind_behind-requires
+dictionary-bind_behind-requires t c = (entry-bindable _ _ c.loop-work.invariant c.span-j.ensures c.sees.ensures c.if-not-sees.false c.span-k.ensures c.span-c.ensures (entering-two c.requires.1 c.if-levels-eq0.false c.loop-work.invariant) c.value-v.ensures c.requires.2 c.own_room-room.ensures c.requires.1.most, entry-mark _ _ c.loop-work.invariant c.span-j.ensures c.sees.ensures c.if-not-sees.false c.span-k.ensures c.span-c.ensures (entering-two c.requires.1 c.if-levels-eq0.false c.loop-work.invariant) c.value-v.ensures c.requires.2, omega (arith, c.own_room-room.ensures), omega arith, entry-end _ _ c.loop-work.invariant c.span-j.ensures c.sees.ensures c.if-not-sees.false c.span-k.ensures c.span-c.ensures (entering-two c.requires.1 c.if-levels-eq0.false c.loop-work.invariant) c.value-v.ensures, entry-source _ _ c.loop-work.invariant c.span-j.ensures c.sees.ensures c.if-not-sees.false c.span-k.ensures c.span-c.ensures (entering-two c.requires.1 c.if-levels-eq0.false c.loop-work.invariant) c.value-v.ensures c.requires.2 (not-false _ c.if-not-v.false))
 
-pub dictionary-shape_of-work-in-Over : goal.dictionary-shape_of-work-in-Over
-dictionary-shape_of-work-in-Over t c = bound-size _ _ c.loop-work.invariant c.span-j.ensures c.sees.ensures c.if-not-sees.false c.span-k.ensures c.span-c.ensures (entering-two c.requires.1 c.if-levels-eq0.false c.loop-work.invariant) c.value-v.ensures c.requires.2 (not-false _ c.if-not-v.false) c.own_room-room.ensures c.bind_behind-o.ensures
+pub dictionary-shape_of-work-in_default : goal.dictionary-shape_of-work-in_default
+dictionary-shape_of-work-in_default t c = bound-size _ _ c.loop-work.invariant c.span-j.ensures c.sees.ensures c.if-not-sees.false c.span-k.ensures c.span-c.ensures (entering-two c.requires.1 c.if-levels-eq0.false c.loop-work.invariant) c.value-v.ensures c.requires.2 (not-false _ c.if-not-v.false) c.own_room-room.ensures c.bind_behind.ensures
 
-pub dictionary-returns-in-Over : goal.dictionary-returns-in-Over
-dictionary-returns-in-Over t c = entering-over _ _ c.loop-work.invariant c.span-j.ensures c.sees.ensures c.if-not-sees.false c.span-k.ensures c.span-c.ensures (entering-two c.requires.1 c.if-levels-eq0.false c.loop-work.invariant) c.value-v.ensures c.requires.2 (not-false _ c.if-not-v.false) c.own_room-room.ensures c.bind_behind-o.ensures c.in-Over.is c.no_value-in-Over.ensures
+pub dictionary-returns-in_default : goal.dictionary-returns-in_default
+dictionary-returns-in_default t c = entering-over _ _ c.loop-work.invariant c.span-j.ensures c.sees.ensures c.if-not-sees.false c.span-k.ensures c.span-c.ensures (entering-two c.requires.1 c.if-levels-eq0.false c.loop-work.invariant) c.value-v.ensures c.requires.2 (not-false _ c.if-not-v.false) c.own_room-room.ensures c.bind_behind.ensures c.in_default.is c.no_value-in_default.ensures
 
 pub dictionary-loop-work-smaller : goal.dictionary-loop-work-smaller
-dictionary-loop-work-smaller t c = let h = entering-moves _ _ c.loop-work.invariant c.span-j.ensures c.sees.ensures c.if-not-sees.false c.span-k.ensures c.span-c.ensures (entering-two c.requires.1 c.if-levels-eq0.false c.loop-work.invariant) c.value-v.ensures c.requires.2 (not-false _ c.if-not-v.false) c.own_room-room.ensures c.bind_behind-o.ensures c.in-Length.is in
+dictionary-loop-work-smaller t c = let h = entering-moves _ _ c.loop-work.invariant c.span-j.ensures c.sees.ensures c.if-not-sees.false c.span-k.ensures c.span-c.ensures (entering-two c.requires.1 c.if-levels-eq0.false c.loop-work.invariant) c.value-v.ensures c.requires.2 (not-false _ c.if-not-v.false) c.own_room-room.ensures c.bind_behind.ensures c.in-Some.is in
     omega (arith, h, c.value-v.ensures.inside)
 
 pub dictionary-loop-work-preserved : goal.dictionary-loop-work-preserved
-dictionary-loop-work-preserved t c = entering-on _ _ c.loop-work.invariant c.span-j.ensures c.sees.ensures c.if-not-sees.false c.span-k.ensures c.span-c.ensures (entering-two c.requires.1 c.if-levels-eq0.false c.loop-work.invariant) c.value-v.ensures c.requires.2 (not-false _ c.if-not-v.false) c.own_room-room.ensures c.bind_behind-o.ensures c.in-Length.is
+dictionary-loop-work-preserved t c = entering-on _ _ c.loop-work.invariant c.span-j.ensures c.sees.ensures c.if-not-sees.false c.span-k.ensures c.span-c.ensures (entering-two c.requires.1 c.if-levels-eq0.false c.loop-work.invariant) c.value-v.ensures c.requires.2 (not-false _ c.if-not-v.false) c.own_room-room.ensures c.bind_behind.ensures c.in-Some.is
 
 pub value-span-i-requires : goal.value-span-i-requires
 value-span-i-requires t c = c.requires.0

@@ -1,9 +1,5 @@
-use Rattle.std.proofs.Common.{rules}
-use Rattle.calls.specs.Measure.{began, measures_read}
+use Rattle.calls.specs.Measure.{measures-read}
 use Rattle.calls.proofs.measure.literal.Goals as goal
 
-pub literal-r-requires : goal.literal-r-requires
-literal-r-requires c = (began c.begins.ensures c.requires, search rules)
-
 pub returns : goal.returns
-returns c = measures_read c.begins.ensures c.requires c.literal-r.ensures
+returns c = let r = rw c.start-to.ensures at c.literal-used.ensures.reads in rw c.size.ensures (measures-read c.requires r.ends.inside r.ends.rest r.text)

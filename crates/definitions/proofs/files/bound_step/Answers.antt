@@ -1,8 +1,8 @@
 use Rattle.definitions.specs.File.{over-step, length-step}
 use Rattle.definitions.proofs.files.bound_step.Goals as goal
 
-pub returns-in-Over : goal.returns-in-Over
-returns-in-Over c = over-step c.in-Over.is c.ended.ensures
+pub returns-in-None : goal.returns-in-None
+returns-in-None c = over-step c.in-None.is c.ended.ensures
 
-pub returns-in-Length : goal.returns-in-Length
-returns-in-Length c = length-step _ c.in-Length.is c.ended-in-Length.ensures
+pub returns-in-Some : goal.returns-in-Some
+returns-in-Some c = length-step _ c.in-Some.is c.ended-in-Some.ensures

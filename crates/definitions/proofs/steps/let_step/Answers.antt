@@ -37,20 +37,20 @@ bind_value_at-o-requires c = let k = c.requires.2 in
     let y = c.value-v.ensures.goes k.sheet (not-false _ c.if-not-v.false) in
     (record { inside = omega (arith, k.fits, k.room); room = k.room; small = k.most; sheet = to-bind k.sheet }, has-mark c.requires.4, record { v = y.v; is = y.source })
 
-pub shape_of-left-in-Over : goal.shape_of-left-in-Over
-shape_of-left-in-Over c = let-size _ c.span-from.ensures c.span-to.ensures c.span-i.ensures c.value-v.ensures (not-false _ c.if-not-v.false) c.bind_value_at-o.ensures c.requires.2
+pub shape_of-left-in-None : goal.shape_of-left-in-None
+shape_of-left-in-None c = let-size _ c.span-from.ensures c.span-to.ensures c.span-i.ensures c.value-v.ensures (not-false _ c.if-not-v.false) c.bind_value_at-o.ensures c.requires.2
 
-pub shape_of-work-in-Over : goal.shape_of-work-in-Over
-shape_of-work-in-Over c = c.value-v.ensures.size
+pub shape_of-work-in-None : goal.shape_of-work-in-None
+shape_of-work-in-None c = c.value-v.ensures.size
 
-pub returns-in-Over : goal.returns-in-Over
-returns-in-Over c = (c.value-v.ensures.size, let-over _ c.span-from.ensures c.span-to.ensures c.span-i.ensures c.value-v.ensures (not-false _ c.if-not-v.false) c.bind_value_at-o.ensures c.requires.2 c.requires.4 c.in-Over.is)
+pub returns-in-None : goal.returns-in-None
+returns-in-None c = (c.value-v.ensures.size, let-over _ c.span-from.ensures c.span-to.ensures c.span-i.ensures c.value-v.ensures (not-false _ c.if-not-v.false) c.bind_value_at-o.ensures c.requires.2 c.requires.4 c.in-None.is)
 
-pub shape_of-left-in-Length : goal.shape_of-left-in-Length
-shape_of-left-in-Length c = let-size _ c.span-from.ensures c.span-to.ensures c.span-i.ensures c.value-v.ensures (not-false _ c.if-not-v.false) c.bind_value_at-o.ensures c.requires.2
+pub shape_of-left-in-Some : goal.shape_of-left-in-Some
+shape_of-left-in-Some c = let-size _ c.span-from.ensures c.span-to.ensures c.span-i.ensures c.value-v.ensures (not-false _ c.if-not-v.false) c.bind_value_at-o.ensures c.requires.2
 
-pub shape_of-work-in-Length : goal.shape_of-work-in-Length
-shape_of-work-in-Length c = c.value-v.ensures.size
+pub shape_of-work-in-Some : goal.shape_of-work-in-Some
+shape_of-work-in-Some c = c.value-v.ensures.size
 
-pub returns-in-Length : goal.returns-in-Length
-returns-in-Length c = (c.value-v.ensures.size, let-bound _ c.span-from.ensures c.span-to.ensures c.span-i.ensures c.value-v.ensures (not-false _ c.if-not-v.false) c.bind_value_at-o.ensures c.requires.2 c.requires.4 c.requires.1 c.in-Length.is)
+pub returns-in-Some : goal.returns-in-Some
+returns-in-Some c = (c.value-v.ensures.size, let-bound _ c.span-from.ensures c.span-to.ensures c.span-i.ensures c.value-v.ensures (not-false _ c.if-not-v.false) c.bind_value_at-o.ensures c.requires.2 c.requires.4 c.requires.1 c.in-Some.is)

@@ -1,19 +1,18 @@
-use native.Mathlib.Omega.{arith}
-use Rattle.buffers.specs.Laws.{put-writer, put-length}
-use Rattle.marked_files.specs.Sources.{block_put}
+use Rattle.std.proofs.Common.{arith}
+use Rattle.buffers.specs.Wrote.{puts-then, puts-no}
 use Rattle.marked_files.proofs.sources.put_block.Goals as goal
 
-pub put-c-requires : goal.put-c-requires
-put-c-requires c = put-writer c.put-a.ensures c.requires.0
+pub returns-in_err-put : goal.returns-in_err-put
+returns-in_err-put c = puts-no _ c.in_err-put.was c.put.ensures (grind arith)
 
-pub put_byte-d-requires : goal.put_byte-d-requires
-put_byte-d-requires c = put-writer c.put-c.ensures (put-writer c.put-a.ensures c.requires.0)
+pub returns-in_err-put-2 : goal.returns-in_err-put-2
+returns-in_err-put-2 c = puts-then c.in_ok-put.was c.put.ensures (puts-no _ c.in_err-put-2.was c.put-2.ensures (grind arith))
 
-pub put-e-requires : goal.put-e-requires
-put-e-requires c = put-writer c.put_byte-d.ensures (put-writer c.put-c.ensures (put-writer c.put-a.ensures c.requires.0))
+pub returns-in_err-put-3 : goal.returns-in_err-put-3
+returns-in_err-put-3 c = puts-then c.in_ok-put.was c.put.ensures (puts-then c.in_ok-put-2.was c.put-2.ensures (puts-no _ c.in_err-put-3.was c.put-3.ensures (grind arith)))
 
-pub put_end-requires : goal.put_end-requires
-put_end-requires c = (put-writer c.put-e.ensures (put-writer c.put_byte-d.ensures (put-writer c.put-c.ensures (put-writer c.put-a.ensures c.requires.0))), omega (arith, put-length c.put-e.ensures, put-length c.put_byte-d.ensures, put-length c.put-c.ensures, put-length c.put-a.ensures, c.requires.1))
+pub returns-in_err-put-4 : goal.returns-in_err-put-4
+returns-in_err-put-4 c = puts-then c.in_ok-put.was c.put.ensures (puts-then c.in_ok-put-2.was c.put-2.ensures (puts-then c.in_ok-put-3.was c.put-3.ensures (puts-no _ c.in_err-put-4.was c.put-4.ensures (grind arith))))
 
 pub returns : goal.returns
-returns c = block_put c.requires.1 c.put-a.ensures c.put-c.ensures c.put_byte-d.ensures c.put-e.ensures c.put_end.ensures
+returns c = puts-then c.in_ok-put.was c.put.ensures (puts-then c.in_ok-put-2.was c.put-2.ensures (puts-then c.in_ok-put-3.was c.put-3.ensures (puts-then c.in_ok-put-4.was c.put-4.ensures c.put_end.ensures)))

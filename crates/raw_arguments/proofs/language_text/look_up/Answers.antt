@@ -1,24 +1,25 @@
-use native.Mathlib.Omega.{arith}
-use Rattle.raw_arguments.specs.Lang.{inside-reference, looks_same, looks_up}
+use Rattle.std.proofs.Common.{refl, arith}
+use Rattle.raw_arguments.specs.Args.{lang_text}
+use Rattle.raw_arguments.specs.Lang.{text_of_lang}
 use Rattle.raw_arguments.proofs.language_text.look_up.Goals as goal
 
-pub slice_bounds-find_text-count : goal.slice_bounds-find_text-count
-slice_bounds-find_text-count c = (inside-reference _ _ c.requires.0 c.in-Reference.is).0
+pub returns-in_default : goal.returns-in_default
+unfolding text_of_lang lang_text
+returns-in_default c = λ s. rw c.in_default.is refl
 
-pub slice_bounds-find_text-start : goal.slice_bounds-find_text-start
-slice_bounds-find_text-start c = let h = inside-reference _ _ c.requires.0 c.in-Reference.is in omega (arith, h.0, h.1)
+pub slice_bounds-result-count : goal.slice_bounds-result-count
+slice_bounds-result-count c = (c.find_text-found.ensures c.requires).on
 
-pub slice_bounds-find_text-end : goal.slice_bounds-find_text-end
-slice_bounds-find_text-end c = let h = inside-reference _ _ c.requires.0 c.in-Reference.is in omega (arith, h.0, h.1)
+pub slice_bounds-result-start : goal.slice_bounds-result-start
+slice_bounds-result-start c = let p = c.find_text-found.ensures c.requires in omega (arith, p.on, p.inside)
 
-pub find_text-f-requires : goal.find_text-f-requires
-find_text-f-requires c = c.requires.1
+pub slice_bounds-result-end-in-Reference : goal.slice_bounds-result-end-in-Reference
+slice_bounds-result-end-in-Reference c = let p = c.find_text-found.ensures c.requires in omega (arith, p.on, p.inside)
 
 pub returns-in-Literal : goal.returns-in-Literal
-returns-in-Literal c = λ s. looks_same _ _ _ c.in-Literal.is c.requires.0
+unfolding text_of_lang lang_text
+returns-in-Literal c = λ s. rw (c.in-Some.is, c.in-Literal.is) refl
 
 pub returns-in-Reference : goal.returns-in-Reference
-returns-in-Reference c = λ s. looks_up _ _ _ c.in-Reference.is (c.find_text-f.ensures s)
-
-pub returns-in-Found : goal.returns-in-Found
-returns-in-Found c = λ s. looks_same _ _ _ c.in-Found.is c.requires.0
+unfolding text_of_lang lang_text
+returns-in-Reference c = λ s. rw (c.in-Some.is, c.in-Reference.is) (c.find_text-found.ensures s).text

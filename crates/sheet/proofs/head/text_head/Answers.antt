@@ -1,12 +1,8 @@
-use native.Mathlib.Omega.{arith}
 use Rattle.sheet.specs.Heads.{value-text, value-no-text, text-map, text-bit}
 use Rattle.sheet.proofs.head.text_head.Goals as goal
 
-pub returns-then-k-eq0 : goal.returns-then-k-eq0
-returns-then-k-eq0 c = value-no-text _ 2 _ _ text-map text-bit c.field-k.ensures c.if-k-eq0.true
-
-pub overflow_add-result-3 : goal.overflow_add-result-3
-overflow_add-result-3 c = omega (arith, c.field-k.ensures.inside c.if-k-eq0.false)
+pub returns-in_err-text : goal.returns-in_err-text
+returns-in_err-text c = rw c.from_residual.ensures (value-no-text _ 2 _ text-map text-bit c.in_err-text.ensures)
 
 pub returns : goal.returns
-returns c = value-text _ 2 _ _ text-map text-bit c.field-k.ensures c.if-k-eq0.false
+returns c = value-text _ 2 _ text-map text-bit c.in_ok-text.ensures

@@ -28,17 +28,17 @@ pub value-requires : goal.value-requires
 value-requires c = let k = sought (c.loop-i.invariant c.requires) (search rules) in
     item_has-body (c.item-o.ensures _ _ _ _ k.part)
 
-pub returns-then-c-eq1 : goal.returns-then-c-eq1
-returns-then-c-eq1 c = λ l.
+pub returns-in-Equal : goal.returns-in-Equal
+returns-in-Equal c = λ l.
     let k = sought (c.loop-i.invariant l) (search rules) in
     let d = c.item-o.ensures _ _ _ _ k.part in
-    seek_found k d.name c.order-c.ensures _ c.if-c-eq1.true (c.value.ensures _ (item_body d))
+    seek_found k d.name c.order.ensures _ c.in-Equal.is (c.value.ensures _ (item_body d))
 
-pub returns-then-c-eq2 : goal.returns-then-c-eq2
-returns-then-c-eq2 c = λ l.
+pub returns-in-Greater : goal.returns-in-Greater
+returns-in-Greater c = λ l.
     let k = sought (c.loop-i.invariant l) (search rules) in
     let d = c.item-o.ensures _ _ _ _ k.part in
-    seek_passed k d.name c.order-c.ensures c.if-c-eq2.true
+    seek_passed k d.name c.order.ensures c.in-Greater.is
 
 pub skip-i-requires : goal.skip-i-requires
 skip-i-requires c = let k = sought (c.loop-i.invariant c.requires) (search rules) in
@@ -53,7 +53,7 @@ pub loop-i-preserved : goal.loop-i-preserved
 loop-i-preserved c = λ l.
     let k = sought (c.loop-i.invariant l) (search rules) in
     let d = c.item-o.ensures _ _ _ _ k.part in
-    seek_on k d.name c.order-c.ensures c.if-c-eq1.false (item_rest d (c.skip-i.ensures _ _ (item_holding d)))
+    seek_on k d.name c.order.ensures c.in-Less.is (item_rest d (c.skip-i.ensures _ _ (item_holding d)))
 
 pub returns : goal.returns
 returns c = λ l. seek_end (c.loop-i.invariant l) (search rules)

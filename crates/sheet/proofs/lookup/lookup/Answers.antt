@@ -1,13 +1,7 @@
 use Rattle.std.proofs.Common.{rules}
-use mathlib.Core.Path.{◌≡◌}
 use native.Mathlib.Omega.{arith}
-use Prim.Native.Nat.{ℕ}
-use Rattle.sheet.specs.Look.{walk_start, walk-last, walk-stop, walk-on, dot_spans}
-use mathlib.Core.Logic.{◌⊎◌, ⊎_elim}
+use Rattle.sheet.specs.Look.{walk_start, walk-last, walk-missing, walk-stop, walk-on, dot_spans}
 use Rattle.sheet.proofs.lookup.lookup.Goals as goal
-
-none_of : {x : ℕ} → x ≡ 3 → (x ≡ 0) ⊎ ((x ≡ 1) ⊎ (x ≡ 2)) → ⊥
-none_of h w = ⊎_elim (λ a. omega arith) (λ b. ⊎_elim (λ a. omega arith) (λ a. omega arith) b) w
 
 pub loop-f-init : goal.loop-f-init
 loop-f-init c = (search rules, λ r e g. walk_start _ e g)
@@ -30,10 +24,15 @@ find-f-requires c = (c.loop-f.invariant.1 _ c.requires.bytes c.requires.good).le
 pub returns-then-q-path : goal.returns-then-q-path
 returns-then-q-path c = λ r e g. let w = c.loop-f.invariant.1 r e g in walk-last _ _ w (dot_spans c.span-q.ensures) _ c.if-q-path.true (c.find-f.ensures w.level)
 
+pub returns-in_err-records : goal.returns-in_err-records
+returns-in_err-records c = λ r e g.
+    let w = c.loop-f.invariant.1 r e g in
+    rw c.from_residual.ensures (walk-missing _ _ w (dot_spans c.span-q.ensures) (omega (arith, c.if-q-path.false, c.span-q.ensures.inside)) (c.in_err-records.ensures w.level))
+
 pub returns-in_default : goal.returns-in_default
 returns-in_default c = λ r e g.
     let w = c.loop-f.invariant.1 r e g in
-    walk-stop _ _ w (dot_spans c.span-q.ensures) (omega (arith, c.if-q-path.false, c.span-q.ensures.inside)) _ c.in_default.not-Dictionary (c.find-f.ensures w.level)
+    walk-stop _ _ w (dot_spans c.span-q.ensures) (omega (arith, c.if-q-path.false, c.span-q.ensures.inside)) _ (c.in_ok-records.ensures w.level) c.in_default.not-Dictionary
 
 pub overflow_add-p : goal.overflow_add-p
 overflow_add-p c = omega (arith, c.if-q-path.false, c.span-q.ensures.inside)
@@ -42,4 +41,4 @@ pub loop-f-smaller : goal.loop-f-smaller
 loop-f-smaller c = omega (arith, c.if-q-path.false, c.span-q.ensures.inside, c.span-q.ensures.on)
 
 pub loop-f-preserved : goal.loop-f-preserved
-loop-f-preserved c = (omega (arith, c.if-q-path.false, c.span-q.ensures.inside), λ r e g. let w = c.loop-f.invariant.1 r e g in walk-on _ _ w (dot_spans c.span-q.ensures) (omega (arith, c.if-q-path.false, c.span-q.ensures.inside)) _ c.in-Dictionary.is (c.find-f.ensures w.level))
+loop-f-preserved c = (omega (arith, c.if-q-path.false, c.span-q.ensures.inside), λ r e g. let w = c.loop-f.invariant.1 r e g in walk-on _ _ w (dot_spans c.span-q.ensures) (omega (arith, c.if-q-path.false, c.span-q.ensures.inside)) _ (c.in_ok-records.ensures w.level) c.in-Dictionary.is)

@@ -1,24 +1,22 @@
-use Rattle.std.proofs.Common.{rules}
-use Rattle.sheet.specs.Order.{ordering-start, ordering-over, ordering-under, ordering-end, ordering-less, ordering-more, ordering-on}
+use Rattle.std.proofs.Common.{rules, refl, ◌∙◌, ap, length-append}
+use Rattle.std.proofs.lemmas.Slice.Zip.{zip_turn, zip_end}
+use Rattle.sheet.specs.Order.{underscore_if, order_end, order_found, order_on}
 use Rattle.sheet.proofs.lookup.order.Goals as goal
 
-pub loop-i-init : goal.loop-i-init
-loop-i-init c = ordering-start _ _
+pub loop-x-init : goal.loop-x-init
+loop-x-init c = record { same = refl }
 
-pub returns-then-b-i : goal.returns-then-b-i
-returns-then-b-i c = ordering-over _ _ c.loop-i.invariant (search rules) (search rules)
+pub returns-then-is_ne : goal.returns-then-is_ne
+returns-then-is_ne c =
+    let z = zip_turn c.args.a.now c.args.b.now c.loop-x.yielded c.into_iter-x-iterator.result c.loop-x.x-iterator c.next.new.self c.next.result (search rules) (search rules) c.loop-x.yielded_by (c.in-Some.x, c.in-Some.y) c.in-Some.is c.next.ensures.steps in
+    order_found _ _ c.loop-x.invariant z.0 z.1 (z.2 0) (c.underscored_if.ensures ∙ ap (underscore_if c.args.reference) (z.3 0)) c.cmp-o.ensures (search rules)
 
-pub returns-then-a-i : goal.returns-then-a-i
-returns-then-a-i c = ordering-less _ _ c.loop-i.invariant (search rules) (search rules) c.underscored_if-y.ensures c.if-a-i.true
-
-pub returns-then-y-a : goal.returns-then-y-a
-returns-then-y-a c = ordering-more _ _ c.loop-i.invariant (search rules) (search rules) c.underscored_if-y.ensures c.if-y-a.true
-
-pub loop-i-preserved : goal.loop-i-preserved
-loop-i-preserved c = ordering-on _ _ c.loop-i.invariant (search rules) (search rules) c.underscored_if-y.ensures (search rules) (search rules)
-
-pub returns-then-i-b : goal.returns-then-i-b
-returns-then-i-b c = ordering-under _ _ c.loop-i.invariant (search rules) (search rules)
+pub loop-x-preserved : goal.loop-x-preserved
+loop-x-preserved c =
+    let z = zip_turn c.args.a.now c.args.b.now c.loop-x.yielded c.into_iter-x-iterator.result c.loop-x.x-iterator c.next.new.self c.next.result (search rules) (search rules) c.loop-x.yielded_by (c.in-Some.x, c.in-Some.y) c.in-Some.is c.next.ensures.steps in
+    rw length-append (order_on _ _ c.loop-x.invariant z.0 z.1 (z.2 0) (c.underscored_if.ensures ∙ ap (underscore_if c.args.reference) (z.3 0)) c.cmp-o.ensures (search rules))
 
 pub returns : goal.returns
-returns c = ordering-end _ _ c.loop-i.invariant (search rules) (search rules)
+returns c =
+    let z = zip_end c.args.a.now c.args.b.now c.loop-x.yielded c.into_iter-x-iterator.result c.loop-x.x-iterator c.next.new.self c.next.result (search rules) (search rules) c.loop-x.yielded_by c.in-None.is c.next.ensures.steps in
+    order_end _ _ c.loop-x.invariant z c.cmp.ensures

@@ -1,14 +1,14 @@
-use Rattle.sheet.specs.Find.{gives_none, gives-text, gives-dictionary, body_has, body-holding}
+use Rattle.sheet.specs.Find.{tells_nothing, tells-text, tells-dictionary, body_has, body-holding}
 use Rattle.sheet.proofs.lookup.value.Goals as goal
 
-pub returns-then-o-eq1 : goal.returns-then-o-eq1
-returns-then-o-eq1 c = λ v d. gives_none v d c.if-o-eq1.true
+pub returns-in-Nothing : goal.returns-in-Nothing
+returns-in-Nothing c = λ v d. tells_nothing v d c.in-Nothing.is
 
-pub skip-end-requires : goal.skip-end-requires
-skip-end-requires c = body_has c.requires.body
+pub returns-in-Text : goal.returns-in-Text
+returns-in-Text c = λ v d. tells-text v d c.in-Text.is
 
-pub returns-then-o-eq3 : goal.returns-then-o-eq3
-returns-then-o-eq3 c = λ v d. gives-dictionary v d c.if-o-eq3.true (c.skip-end.ensures _ _ (body-holding d))
+pub skip-requires : goal.skip-requires
+skip-requires c = body_has c.requires.body
 
-pub returns : goal.returns
-returns c = λ v d. gives-text v d c.if-o-eq1.false c.if-o-eq3.false
+pub returns-in-Dictionary : goal.returns-in-Dictionary
+returns-in-Dictionary c = λ v d. tells-dictionary v d c.in-Dictionary.is (c.skip.ensures _ _ (body-holding d))

@@ -1,0 +1,23 @@
+use Rattle.rules.specs.Reader.{the}
+use Rattle.rules.specs.Strings.{escape}
+use Rattle.string_ends.specs.Text.{escape-both}
+use Rattle.string_ends.proofs.escape.Goals as goal
+
+pub returns-in-110-clause-takes : goal.returns-in-110-clause-takes
+unfolding escape the
+returns-in-110-clause-takes g c = rw c.in-110.is c.take.ensures.takes
+
+pub returns-in-116-clause-takes : goal.returns-in-116-clause-takes
+unfolding escape the
+returns-in-116-clause-takes g c = rw c.in-116.is c.take-in-116.ensures.takes
+
+pub returns-in-34-clause-takes : goal.returns-in-34-clause-takes
+unfolding escape the
+returns-in-34-clause-takes g c = rw c.in-34.is c.take-in-34.ensures.takes
+
+pub returns-in-92-clause-takes : goal.returns-in-92-clause-takes
+unfolding escape the
+returns-in-92-clause-takes g c = rw c.in-92.is c.take-in-92.ensures.takes
+
+pub returns-in_default-clause-takes : goal.returns-in_default-clause-takes
+returns-in_default-clause-takes g c = let r = c.in_default.in_default-own.rest in rw (escape-both _ r.0.0.0.1 r.0.0.1 r.0.1 r.1) c.take-in_default.ensures.takes
