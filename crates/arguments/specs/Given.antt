@@ -1,9 +1,12 @@
 -- The arguments of the include call, of the expansion call and of a pass.
-use Rattle.std.specs.Prelude.{◌≡◌, refl, List, Bool, true, false, ℕ, ◌≤◌, ◌<◌, leb, length, get_or}
+use Rattle.std.specs.Prelude.{◌≡◌, refl, List, Bool, true, false, ℕ, ◌≤◌, ◌<◌, leb, length, Result, Ok, Err}
 use Rattle.std.proofs.Math.Path.{sym}
 use Rattle.std.proofs.Math.Option.{Option, none, some}
 use Rattle.std.proofs.Common.{arith}
 use borrow.Author.Tests.{le-leb, lt-leb}
+use Rattle.refusal.specs.declared.Refusal.{Refusal}
+use Rattle.refusal.specs.declared.Refusal.TheVariants.{Bundle, Sheet, Path, Byte, Limit}
+use Rattle.refusal.specs.Numbers.{number}
 use Rattle.rules.specs.Answer.{Answer, refused, accepted, ◌>>=◌, ◌>>◌, check, or_refuse, is_some}
 use Rattle.rules.specs.Reader.{all}
 use Rattle.rules.specs.Bytes.{ascii, is_folder}
@@ -12,7 +15,8 @@ use Rattle.rules.specs.Sheet.{Records, sheet_length, sheet_of}
 use Rattle.rules.specs.Calls.{limit}
 use Rattle.rules.proofs.Laws.Bool.{true-some, false-some}
 use Rattle.bundle.specs.Find.{entries_of, entries-some}
-use Rattle.sheet.specs.Use.{Checked, known}
+use Rattle.sheet.specs.Records.{KeepsLayout, records_of, sheet-some}
+use Rattle.arguments.specs.declared.Given.{Given}
 
 -- The bundle's entries and the sheet's records, or the refusal: 2, 3, 4, 6, 9.
 unfoldable pub given : List ℕ → List ℕ → List ℕ → List ℕ → ℕ → Answer (List Entry × Records)
@@ -27,22 +31,21 @@ given bundle folder text sheet L = do
 -- The arguments keep the rules.
 pub record GoodArguments (bundle folder text sheet : List ℕ) (L : ℕ) : Type 0 where
   pub bundles : is_some (bundle_of bundle) ≡ true
-  pub sheets : Checked sheet
+  pub sheets : KeepsLayout sheet
   pub folders : is_folder folder ≡ true
   pub texts : all ascii text ≡ true
   pub fits : length sheet ≤ L
 
--- k is the refusal, or 0.
-pub record Judges (bundle folder text sheet : List ℕ) (L k : ℕ) : Type 0 where
-  pub no : (k ≡ 0 → ⊥) → given bundle folder text sheet L ≡ refused k
-  pub yes : k ≡ 0 → GoodArguments bundle folder text sheet L
+-- The arguments keep the rules, and the bundle and the sheet are theirs; or they are refused.
+abbrev pub Judges : List ℕ → List ℕ → List ℕ → List ℕ → ℕ → Result Given Refusal → Type 0
+Judges bundle folder text sheet L (Ok x) = (x.bundle ≡ bundle) × (x.sheet ≡ sheet) × GoodArguments bundle folder text sheet L
+Judges bundle folder text sheet L (Err e) = given bundle folder text sheet L ≡ refused (number e)
 
-pub good-given : {bundle folder text sheet : List ℕ} {L : ℕ} (f : GoodArguments bundle folder text sheet L) → given bundle folder text sheet L ≡ accepted (entries_of bundle, f.sheets.r)
+pub good-given : {bundle folder text sheet : List ℕ} {L : ℕ} (f : GoodArguments bundle folder text sheet L) → given bundle folder text sheet L ≡ accepted (entries_of bundle, records_of sheet)
 unfolding given or_refuse check ◌>>=◌ ◌>>◌ sheet_length
 good-given {bundle} {folder} {text} {sheet} {L} f =
     let x = true-some (bundle_of bundle) f.bundles in
-    let s = f.sheets in
-    rw (x.1, s.of, f.folders, f.texts, sym s.bytes, le-leb (length sheet) L f.fits, entries-some bundle x.0 x.1) refl
+    rw (x.1, sheet-some sheet f.sheets.layout, f.folders, f.texts, sym f.sheets.written, le-leb (length sheet) L f.fits, entries-some bundle x.0 x.1) refl
 
 -- What follows the arguments.
 pub given-then : {A : Type 0} (bundle folder text sheet : List ℕ) (L : ℕ) (k : List Entry × Records → Answer A) →
@@ -66,36 +69,33 @@ given-then bundle folder text sheet L k = at (bundle_of bundle) (sheet_of sheet)
     at (some es) (some s) true false = refl
     at (some es) (some s) true true = go es s (leb (sheet_length s) L)
 
-module _ {bundle folder text sheet : List ℕ} {L : ℕ} where
-  judged : {k : ℕ} → (k ≡ 0 → ⊥) → given bundle folder text sheet L ≡ refused k → Judges bundle folder text sheet L k
-  judged z e = record { no = λ y. e; yes = λ y. absurd (z y) }
-
-  pub judges-two : is_some (bundle_of bundle) ≡ false → Judges bundle folder text sheet L 2
+module _ (bundle folder text sheet : List ℕ) (L : ℕ) where
+  pub judges-two : is_some (bundle_of bundle) ≡ false → Judges bundle folder text sheet L (Err Bundle)
   unfolding given or_refuse ◌>>=◌
-  judges-two h = judged (λ e. omega arith) (rw (false-some (bundle_of bundle) h) refl)
+  judges-two h = rw (false-some (bundle_of bundle) h) refl
 
   module _ (h : is_some (bundle_of bundle) ≡ true) where
-    pub judges-three : is_some (sheet_of sheet) ≡ false → Judges bundle folder text sheet L 3
+    pub judges-three : is_some (sheet_of sheet) ≡ false → Judges bundle folder text sheet L (Err Sheet)
     unfolding given or_refuse ◌>>=◌
-    judges-three q = judged (λ e. omega arith) (rw ((true-some (bundle_of bundle) h).1, false-some (sheet_of sheet) q) refl)
+    judges-three q = rw ((true-some (bundle_of bundle) h).1, false-some (sheet_of sheet) q) refl
 
-    module _ (b : (i : ℕ) → get_or sheet i 0 < 256) (q : is_some (sheet_of sheet) ≡ true) where
-      pub judges-four : is_folder folder ≡ false → Judges bundle folder text sheet L 4
+    module _ (k : KeepsLayout sheet) where
+      pub judges-four : is_folder folder ≡ false → Judges bundle folder text sheet L (Err Path)
       unfolding given or_refuse check ◌>>=◌ ◌>>◌
-      judges-four g = judged (λ e. omega arith) (rw ((true-some (bundle_of bundle) h).1, (known sheet b q).of, g) refl)
+      judges-four g = rw ((true-some (bundle_of bundle) h).1, sheet-some sheet k.layout, g) refl
 
       module _ (g : is_folder folder ≡ true) where
-        pub judges-six : all ascii text ≡ false → Judges bundle folder text sheet L 6
+        pub judges-six : all ascii text ≡ false → Judges bundle folder text sheet L (Err Byte)
         unfolding given or_refuse check ◌>>=◌ ◌>>◌
-        judges-six a = judged (λ e. omega arith) (rw ((true-some (bundle_of bundle) h).1, (known sheet b q).of, g, a) refl)
+        judges-six a = rw ((true-some (bundle_of bundle) h).1, sheet-some sheet k.layout, g, a) refl
 
         module _ (a : all ascii text ≡ true) where
-          pub judges_nine : L < length sheet → Judges bundle folder text sheet L 9
+          pub judges_nine : L < length sheet → Judges bundle folder text sheet L (Err Limit)
           unfolding given or_refuse check ◌>>=◌ ◌>>◌ sheet_length
-          judges_nine l = judged (λ e. omega arith) (rw ((true-some (bundle_of bundle) h).1, (known sheet b q).of, g, a, sym (known sheet b q).bytes, lt-leb (length sheet) L l) refl)
+          judges_nine l = rw ((true-some (bundle_of bundle) h).1, sheet-some sheet k.layout, g, a, sym k.written, lt-leb (length sheet) L l) refl
 
-          pub judges-none : length sheet ≤ L → Judges bundle folder text sheet L 0
-          judges-none l = record { no = λ z. absurd (z refl); yes = λ z. record { bundles = h; sheets = known sheet b q; folders = g; texts = a; fits = l } }
+          pub judges-none : length sheet ≤ L → GoodArguments bundle folder text sheet L
+          judges-none l = record { bundles = h; sheets = k; folders = g; texts = a; fits = l }
 
 -- The limit of a buffer.
 pub limit-le : (n : ℕ) → limit n ≤ n

@@ -6,6 +6,10 @@ ghost use Rattle.std.specs.Prelude.{◌≡◌};
 ghost use Rattle.rules.specs.Calls.{limit};
 ghost use Rattle.arguments.specs.Given.{Judges};
 
+use bundle::Bundle;
+use refusal::Refusal;
+use sheet::Sheet;
+
 // The most bytes that a sheet may have in a buffer of n bytes.
 pub fn sheet_limit(n: usize) -> usize
     ensures { result ≡ limit n }
@@ -13,22 +17,37 @@ pub fn sheet_limit(n: usize) -> usize
     if n < 65535 { n } else { 65535 }
 }
 
-// The refusal for the arguments: 2, 3, 4, 6, and 9 for the sheet; 0 where there is none.
-pub fn refusal(bundle: &[u8], folder: &[u8], text: &[u8], sheet: &[u8], limit: usize) -> u8
+// The bundle and the sheet of arguments that keep the rules.
+#[derive(Drop)]
+pub struct Given<'a> {
+    pub bundle: Bundle<'a>,
+    pub sheet: Sheet<'a>,
+}
+
+// The bundle and the sheet, where the arguments keep the rules. Refused: 2, 3, 4, 6, and 9 for the sheet.
+pub fn check<'a>(
+    bundle: &'a [u8],
+    folder: &[u8],
+    text: &[u8],
+    sheet: &'a [u8],
+    limit: usize,
+) -> Result<Given<'a>, Refusal>
     ensures { Judges bundle.now folder.now text.now sheet.now limit result }
 {
     let over = limit < sheet.len();
-    if !bundle_layout::check(bundle) {
-        2
-    } else if !sheet_layout::check(sheet) {
-        3
-    } else if !paths::is_folder(folder) {
-        4
+    let Some(bundle) = bundle_layout::check(bundle) else {
+        return Err(Refusal::Bundle);
+    };
+    let Some(sheet) = sheet_layout::check(sheet) else {
+        return Err(Refusal::Sheet);
+    };
+    if !paths::is_folder(folder) {
+        Err(Refusal::Path)
     } else if !scan::is_ascii(text) {
-        6
+        Err(Refusal::Byte)
     } else if over {
-        9
+        Err(Refusal::Limit)
     } else {
-        0
+        Ok(Given { bundle, sheet })
     }
 }

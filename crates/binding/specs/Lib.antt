@@ -1,2 +1,3 @@
 pub mod Write
-pub mod Use
+pub mod Buffer
+pub mod Sheets

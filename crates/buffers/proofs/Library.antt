@@ -9,7 +9,7 @@ use Rattle.std.proofs.lemmas.List.Edits.{sets, sets-eq}
 use Rattle.std.proofs.lemmas.Slice.{put_mid-paste}
 use borrow.Rule.Slice.PartMut.{put_mid}
 use Rattle.rules.specs.Calls.{zeros, padded}
-use Rattle.scan.specs.Laws.{drop-take}
+use Rattle.scan.specs.Sets.{part}
 use Rattle.buffers.specs.Laws.{sets-out, sets_clipped}
 
 module _ (b : List ℕ) where
@@ -19,8 +19,8 @@ module _ (b : List ℕ) where
       sym (sets-eq (take n v) b i (omega arith) ∙ ap (λ z. take i b ++ take n v ++ drop (i + z) b) l)
 
   -- `copy_within`.
-  pub moved : (i j d : ℕ) → i ≤ j → j ≤ length b → d + (j - i) ≤ length b → copy_within b i j d ≡ sets b d (drop i (take j b))
-  moved i j d h k l = paste-sets d (drop i b) (j - i) (omega (arith, length-drop i b)) l ∙ ap (sets b d) (sym (drop-take i j b))
+  pub moved : (i j d : ℕ) → i ≤ j → j ≤ length b → d + (j - i) ≤ length b → copy_within b i j d ≡ sets b d (part b i j)
+  moved i j d h k l = paste-sets d (drop i b) (j - i) (omega (arith, length-drop i b)) l
 
   -- `copy_from_slice` into the part from s on that takes n bytes of t.
   pub stored : (p : ℕ) (t : List ℕ) {s n k : ℕ} {y : List ℕ} → s ≡ min p (length b) → n ≡ min (length t) (length b - s) → k ≡ n → y ≡ take n t → put_mid s k b y ≡ sets b p t

@@ -1,22 +1,20 @@
 -- What a step writes, put by the buffers' writer: the contracts of the writing functions, and one loop that writes step after step.
-use Rattle.std.specs.Prelude.{◌≡◌, Bool, false, leb, take, drop}
+use Rattle.std.specs.Prelude.{◌≡◌, Bool, false, leb, take}
 use Rattle.std.proofs.Math.Path.{refl, sym, ap}
-use Rattle.std.proofs.Common.{◌∙◌, true≢false, arith, length-append, length-take-le, drop_at}
+use Rattle.std.proofs.Common.{◌∙◌, true≢false, arith, length-append}
 use mathlib.Core.List.{List, [], ◌++◌, append_assoc, append-nil}
 use Rattle.std.proofs.Math.Bool.{true}
 use Prim.Native.Nat.{ℕ, ◌+◌, ◌-◌, ◌≤◌, ◌<◌}
 use Rattle.std.proofs.Math.Decide.{dec_le}
 use Rattle.std.proofs.Math.Nat.{sub-zero}
 use Rattle.std.proofs.Math.ListN.{length}
-use Rattle.std.proofs.lemmas.List.Edits.{sets, sets-eq}
-use Rattle.std.proofs.Math.Seq.{take-append_seam}
-use borrow.Author.Tests.{le-leb, lt-leb, leb-true, leb-false}
+use Rattle.std.proofs.lemmas.List.Edits.{sets}
+use borrow.Author.Tests.{le-leb, lt-leb}
 use Rattle.rules.specs.Answer.{Answer, refused, accepted, ◌>>=◌, ◌>>◌, check}
 use Rattle.rules.specs.Run.{Emit, ok, put, fail, and_then, Did, Trace, fin, step, emitted, final, write, limited}
 use Rattle.rules.proofs.Laws.Answer.{not-both, accepted-same}
 use Rattle.rules.proofs.Laws.Limit.{write_inv}
-use Rattle.buffers.specs.Put.{after, Put}
-use Rattle.buffers.specs.Laws.{after-fits, after-not, put-length, sets-append}
+use Rattle.buffers.specs.Laws.{sets-append, stored-first}
 
 -- The text v is stored from p on, and the writer goes on behind it, at q.
 pub record Fill (b : List ℕ) (p : ℕ) (v c : List ℕ) (q : ℕ) : Type 0 where
@@ -66,6 +64,11 @@ write-full full r v e h = rw (lt-leb (length v) r h)
 
 pub write-none : (full r : ℕ) (e : Emit) → write full r (put [] e) ≡ write full r e
 write-none full r e = write-fit full r [] e (omega arith) ∙ before-nil (write full (r - 0) e) ∙ ap (λ x. write full x e) (sub-zero r)
+
+-- One piece alone.
+pub write-one : (full r : ℕ) (v : List ℕ) → write full r (put v ok) ≡ (check full (leb (length v) r) >> accepted v)
+unfolding write ◌>>=◌
+write-one full r v = ap (λ z. check full (leb (length v) r) >> accepted z) (append-nil v)
 
 pub write_same : (full r : ℕ) (v : List ℕ) (e f : Emit) → write full (r - length v) e ≡ write full (r - length v) f → write full r (put v e) ≡ write full r (put v f)
 unfolding write
@@ -160,70 +163,15 @@ module _ {full room : ℕ} {e : Emit} {b : List ℕ} {p : ℕ} {c : List ℕ} {q
   pub going_end : Going full room e b p c q ok → Writes full room e b p c q
   going_end g = record { text = g.text; fills = g.fills; fits = g.fits; says = g.left ∙ (unfold write before in ap accepted (append-nil g.text)) }
 
--- A piece that is put if it fits; if not, the buffer's bytes are not told.
-pub record Fills (room : ℕ) (b : List ℕ) (p : ℕ) (v c : List ℕ) (q : ℕ) : Type 0 where
-  pub size : length c ≡ length b
-  pub place : q ≡ after room p (length v)
-  pub stored : q ≤ room → c ≡ sets b p v
-
-pub put-fills : {room : ℕ} {b : List ℕ} {p : ℕ} {v c : List ℕ} {q : ℕ} → Put room b p v c q → Fills room b p v c q
-put-fills s = record { size = put-length s; place = s.place; stored = λ k. s.stored }
-
-pub emits-fills : {full room : ℕ} {b : List ℕ} {p : ℕ} {v c : List ℕ} {q : ℕ} → p ≤ room → Fills room b p v c q → Emits full room (put v ok) b p c (leb q room) full q
-emits-fills {full} {room} {b} {p} {v} {c} {q} h s = record {
-  size = s.size;
-  goes = λ z.
-      let f = leb-true q room z in
-      let e = s.place ∙ after-fits room p (length v) (omega (arith, s.place)) in
-      record { text = v; fills = record { stored = s.stored f; place = e }; fits = f; says = write-fit full (room - p) v ok (omega arith) ∙ (unfold write before in ap accepted (append-nil v)) };
-  stops = λ z.
-      let n = leb-false q room z in
-      write-full full (room - p) v ok (omega (arith, after-not room p (length v) (omega (arith, s.place))));
-}
-
-pub emits-put : {full room : ℕ} {b : List ℕ} {p : ℕ} {v c : List ℕ} {q : ℕ} → p ≤ room → Put room b p v c q → Emits full room (put v ok) b p c (leb q room) full q
-emits-put h s = emits-fills h (put-fills s)
-
--- Nothing.
-pub emits-ok : (full room : ℕ) (b : List ℕ) (p k : ℕ) → p ≤ room → Emits full room ok b p b true k p
-emits-ok full room b p k h = record {
-  size = refl;
-  goes = λ z. record { text = []; fills = fill_none b p; fits = h; says = (unfold write in refl) };
-  stops = λ z. absurd (true≢false z);
-}
+-- A text written from the start of a buffer stands there.
+pub written-first : {full room : ℕ} {e : Emit} {b : List ℕ} {p : ℕ} {c : List ℕ} {q : ℕ} (w : Writes full room e b p c q) → p ≡ 0 → room ≡ length b → (q ≡ length w.text) × (take q c ≡ w.text)
+written-first {b = b} {c = c} {q = q} w z l =
+    let f : q ≡ length w.text = omega (arith, w.fills.place) in
+    (f, ap (take q) (w.fills.stored ∙ ap (λ x. sets b x w.text) z) ∙ ap (λ x. take x (sets b 0 w.text)) f ∙ stored-first b w.text (omega (arith, w.fits)))
 
 -- A refusal.
 pub emits-fail : (full room : ℕ) (b : List ℕ) (p k q : ℕ) → Emits full room (fail k) b p b false k q
 emits-fail full room b p k q = record { size = refl; goes = λ z. absurd (true≢false (sym z)); stops = λ z. (unfold write in refl) }
-
--- THE SAME FOR EVERY BUFFER: what is answered does not depend on it.
-module _ {full room : ℕ} {e : Emit} {p : ℕ} {b c : List ℕ} {fine : Bool} {k q : ℕ} (s : Emits full room e b p c fine k q) {b₂ c₂ : List ℕ} {fine₂ : Bool} {k₂ q₂ : ℕ} (t : Emits full room e b₂ p c₂ fine₂ k₂ q₂) where
-  pub same-fine : fine ≡ fine₂
-  same-fine = at fine fine₂ refl refl
-    where
-      at : (x y : Bool) → fine ≡ x → fine₂ ≡ y → fine ≡ fine₂
-      at true true u v = u ∙ sym v
-      at false false u v = u ∙ sym v
-      at true false u v = absurd (not-both (sym (t.stops v) ∙ (s.goes u).says))
-      at false true u v = absurd (not-both (sym (s.stops u) ∙ (t.goes v).says))
-
-  pub same_number : fine ≡ false → k ≡ k₂
-  same_number h = let z = sym (s.stops h) ∙ t.stops (sym same-fine ∙ h) in cc
-
-  pub same_place : fine ≡ true → q ≡ q₂
-  same_place h =
-      let w = s.goes h in
-      let y = t.goes (sym same-fine ∙ h) in
-      w.fills.place ∙ ap (λ z. p + length z) (accepted-same (sym w.says ∙ y.says)) ∙ sym y.fills.place
-
--- In a buffer as long as the room the whole text stands.
-pub emits-stands : {full room : ℕ} {e : Emit} {p : ℕ} {b c : List ℕ} {k q : ℕ} (s : Emits full room e b p c true k q) → length b ≡ room → take (q - p) (drop p c) ≡ (s.goes refl).text
-emits-stands {room = room} {p = p} {b = b} {c = c} {q = q} s l =
-    let w = s.goes refl in
-    let v = w.text in
-    let n : q - p ≡ length v = omega (arith, w.fills.place) in
-    let h : length (take p b) ≡ p = length-take-le p b (omega (arith, w.fills.place, w.fits)) in
-    ap (λ z. take (q - p) (drop p z)) (w.fills.stored ∙ sets-eq v b p (omega (arith, w.fills.place, w.fits)) ∙ append_assoc (take p b) v (drop (p + length v) b)) ∙ ap (take (q - p)) (drop_at (take p b) (v ++ drop (p + length v) b) p h) ∙ ap (λ z. take z (v ++ drop (p + length v) b)) n ∙ take-append_seam v (drop (p + length v) b)
 
 -- A RUN with a limit for its state: what each step writes, or 9.
 module _ {S : Type 0} (size : S → ℕ) (L : ℕ) where

@@ -1,12 +1,12 @@
--- Laws of the writer: texts put one after the other, and when all has fitted.
+-- Places behind so many bytes, and stores one behind the other.
 use Rattle.std.specs.Prelude.{◌≡◌, refl, List, [], ◌∷◌, ◌++◌, ℕ, suc, ◌+◌, ◌-◌, ◌≤◌, ◌<◌, min, length, take, drop, set}
-use Rattle.std.proofs.Common.{sym, ap, ◌∙◌, append-nil, add-zero, length-append, length-take, take-append-drop, drop_of_length-le, drop-set-lt, length-take-le, take_all}
+use Rattle.std.proofs.Common.{sym, ap, ◌∙◌, add-zero, take-append-drop, length-take-le, take_all}
 use native.Mathlib.Omega.{arith}
-use Rattle.std.proofs.Math.Decide.{dec_le, dec_lt}
+use Rattle.std.proofs.Math.Decide.{dec_le}
 use Rattle.std.proofs.lemmas.List.Edits.{sets, sets-eq}
-use Rattle.std.proofs.Math.Seq.{set_out, take-set-lt, length-sets, take-append_seam}
+use Rattle.std.proofs.Math.Seq.{set_out, length-sets, take-append_seam}
 use Rattle.std.proofs.lemmas.List.{set_comm, take-set-le}
-use Rattle.buffers.specs.Put.{after, Writer, Put}
+use Rattle.buffers.specs.Put.{after}
 
 -- PLACES.
 module _ (room p n : ℕ) where
@@ -35,9 +35,9 @@ module _ (room p n : ℕ) where
   unfolding after
   after_more m = omega arith
 
-pub after_none : {room p : ℕ} → Writer room p → after room p 0 ≡ p
+pub after_none : (room p : ℕ) → p ≤ room + 1 → after room p 0 ≡ p
 unfolding after
-after_none w = omega (arith, w.place)
+after_none room p h = omega arith
 
 -- STORES.
 pub sets-out : (b : List ℕ) (p : ℕ) (v : List ℕ) → length b ≤ p → sets b p v ≡ b
@@ -78,56 +78,6 @@ sets_clipped b p t i h k = go (dec_le (length t) i)
         let e : sets (sets b p (take i t)) (p + length (take i t)) (drop i t) ≡ sets b p t = sets-append b p (take i t) (drop i t) ∙ ap (sets b p) (take-append-drop i t) in
         sym (sets-out (sets b p (take i t)) (p + length (take i t)) (drop i t) (omega (arith, length-sets b p (take i t)))) ∙ e
 
--- What a first part of a buffer, lent for writing, leaves in it: the text up to the part's end.
-sets-lent : (v b : List ℕ) (e k : ℕ) → k ≤ e → sets (take e b) k v ++ drop e b ≡ sets b k (take (e - k) v)
-sets-lent [] b e k h = take-append-drop e b ∙ ap (sets b k) (sym (take_all (e - k) [] (omega arith)))
-sets-lent (x ∷ xs) b e k h = go (dec_lt k e) (λ l. sets-lent xs (set b k x) e (suc k) l)
-  where
-    go : Dec (k < e) → (k < e → sets (take e (set b k x)) (suc k) xs ++ drop e (set b k x) ≡ sets (set b k x) (suc k) (take (e - suc k) xs)) → sets (set (take e b) k x) (suc k) xs ++ drop e b ≡ sets b k (take (e - k) (x ∷ xs))
-    go (yes l) ih =
-        let z : e - k ≡ suc (e - suc k) = omega arith in
-        rw z (sym (ap (λ y. sets y (suc k) xs ++ drop e (set b k x)) (take-set-lt e b k x l) ∙ ap (λ y. sets (set (take e b) k x) (suc k) xs ++ y) (drop-set-lt e b k x l)) ∙ ih l)
-    go (no l) ih =
-        let z : e - k ≡ 0 = omega arith in
-        let y : length (take e b) ≤ k = omega (arith, length-take e b) in
-        rw z (ap (λ u. u ++ drop e b) (sets-out (take e b) k (x ∷ xs) y) ∙ take-append-drop e b)
-
-pub lent-first : (v b : List ℕ) (e k : ℕ) {c : List ℕ} → c ≡ sets (take e b) k v → k ≤ e → c ++ drop e b ≡ sets b k (take (e - k) v)
-lent-first v b e k q h = ap (λ z. z ++ drop e b) q ∙ sets-lent v b e k h
-
-pub sets_first : (v b : List ℕ) (e k : ℕ) → k ≤ e → length b ≤ e → sets b k v ≡ sets b k (take (e - k) v)
-sets_first v b e k h l = sym (append-nil (sets b k v)) ∙ ap (λ z. sets z k v ++ []) (sym (take_all e b l)) ∙ ap (λ z. sets (take e b) k v ++ z) (sym (drop_of_length-le b l)) ∙ sets-lent v b e k h
-
 -- What is stored at the start.
 pub stored-first : (b t : List ℕ) → length t ≤ length b → take (length t) (sets b 0 t) ≡ t
 stored-first b t h = rw (sets-eq t b 0 (omega arith)) (take-append_seam t _)
-
--- TEXTS put one after the other, into a buffer that is no longer than the room.
-pub put-none : {room p : ℕ} → Writer room p → (b : List ℕ) → Put room b p [] b p
-put-none w b = record { stored = refl; place = sym (after_none w) }
-
-module _ {room : ℕ} {b : List ℕ} {p : ℕ} {v c : List ℕ} {q : ℕ} (s : Put room b p v c q) where
-  pub put-writer : Writer room p → Writer room q
-  put-writer w = record { place = omega (arith, s.place, after-bound room p (length v)); fits = w.fits }
-
-  pub put-length : length c ≡ length b
-  put-length = ap length s.stored ∙ length-sets b p v
-
-  -- All has fitted, or not.
-  pub put-fits : q ≤ room → q ≡ p + length v
-  put-fits k = s.place ∙ after-fits room p (length v) (omega (arith, s.place))
-
-  pub put-not : room < q → room < p + length v
-  put-not k = after-not room p (length v) (omega (arith, s.place))
-
-  pub put_then : {w d : List ℕ} {r : ℕ} → length b ≤ room → Put room c q w d r → Put room b p (v ++ w) d r
-  put_then {w} {d} {r} l t = record {
-    stored = t.stored ∙ go (dec_le q room);
-    place = t.place ∙ ap (λ z. after room z (length w)) s.place ∙ after_more room p (length v) (length w) ∙ ap (after room p) (sym (length-append v w));
-  }
-    where
-      go : Dec (q ≤ room) → sets c q w ≡ sets b p (v ++ w)
-      go (yes k) = ap (λ z. sets z q w) s.stored ∙ ap (λ z. sets (sets b p v) z w) (put-fits k) ∙ sets-append b p v w
-      go (no k) =
-          sets-out c q w (omega (arith, put-length)) ∙ s.stored
-          ∙ sym (sets-out (sets b p v) (p + length v) w (omega (arith, length-sets b p v, put-not (omega arith)))) ∙ sets-append b p v w

@@ -1,2 +1,5 @@
 pub mod Texts
 pub mod Cleared
+pub mod Lookups
+pub mod Runs
+pub mod Definitions

@@ -1,6 +1,6 @@
 -- Looking a path up in a bundle.
 use Rattle.std.proofs.Math.Path.{◌≡◌, sym, ap}
-use Rattle.std.specs.Prelude.{Option as Maybe, Some, None, IsSome, refl, Bool, true, false, ◌&&◌, ◌||◌, ℕ, suc, ◌+◌, ◌-◌, ◌*◌, ◌≤◌, ◌<◌, eqb, leb, get_or}
+use Rattle.std.specs.Prelude.{Option as Maybe, Some, None, IsSome, refl, Bool, true, false, ◌&&◌, ◌||◌, ℕ, suc, ◌+◌, ◌-◌, ◌≤◌, ◌<◌, eqb, leb}
 use Rattle.std.proofs.lemmas.Bool.{lt-leb}
 use Rattle.std.proofs.Common.{◌∙◌, true≢false, eq-eqb, eqb-true}
 use mathlib.Core.List.{List, [], ◌∷◌, ◌++◌}
@@ -12,16 +12,16 @@ use Rattle.std.proofs.Math.ListN.{length, drop, length-drop}
 use Rattle.std.proofs.Math.Seq.{length-take-le}
 use Rattle.rules.specs.Reader.{all, prefix, same, sees}
 use Rattle.rules.specs.Bytes.{is_path}
-use Rattle.rules.specs.Layout.{Parser, bind, ◌>>=◌, pure, times}
+use Rattle.rules.specs.Layout.{Parser, bind, ◌>>=◌, pure, times, word16}
 use Rattle.rules.specs.Bundle.{Entry, entry, above, ascending, good_paths, paths_of, bundle_of}
 use Rattle.rules.specs.Files.{File, absent, folder, file, entry_at, is_folder_of, file_of, view}
 use Rattle.rules.specs.Answer.{is_some}
 use Rattle.rules.proofs.Laws.Bool.{and_l, and_r}
 use Rattle.rules.proofs.Laws.Found.{some_same}
-use Rattle.scan.specs.Sets.{part, Starts, Sees, byte_is}
+use Rattle.scan.specs.Sets.{part, Within, Starts, Sees, byte_is}
 use Rattle.paths.specs.Joined.{Joins}
 use Rattle.paths.specs.declared.path.Path.{Path}
-use Rattle.bundle_entries.specs.Entries.{entry_of, path_at, Within, IsHead, HeadAt}
+use Rattle.bundle_entries.specs.Entries.{entry_of, path_at, IsHead, HeadAt}
 use Rattle.bundle_entries.specs.Whole.{closing, finish, bundle-rest, check-short}
 use Rattle.bundle_entries.specs.declared.Head.{Head}
 use Rattle.bundle.specs.declared.Found.{Found}
@@ -116,18 +116,18 @@ find_long b h = at (dec_le (length b) 1)
     at (yes k) = absurd (true≢false (sym h ∙ sym (check-short b (omega arith))))
     at (no k) = omega arith
 
-pub finding-start : (b p : List ℕ) {n : ℕ} → is_some (bundle_of b) ≡ true → n ≡ get_or b 0 0 + 256 * get_or b 1 0 → Finding b p n 2 false
+pub finding-start : (b p : List ℕ) {n : ℕ} → is_some (bundle_of b) ≡ true → word16 b ≡ some (n, drop 2 b) → Finding b p n 2 false
 unfolding entries_of some_of good_paths
 finding-start b p {n} h e =
     let l = find_long b h in
-    let q = bundle-rest b l in
-    let x = closing_inv (times (get_or b 0 0 + 256 * get_or b 1 0) (entry (length b)) (drop 2 b)) (rw q at h) in
+    let q = bundle-rest b e in
+    let x = closing_inv (times n (entry (length b)) (drop 2 b)) (rw q at h) in
     let z : entries_of b ≡ x.0.0 = entries-some b x.0.0 (q ∙ x.3) in
     record {
       more = x.0.0;
       behind = x.0.1;
       place = omega arith;
-      rest = rw e x.1;
+      rest = x.1;
       paths = and_l (all is_path (paths_of x.0.0)) _ (and_l (all is_path (paths_of x.0.0) && ascending (paths_of x.0.0)) _ x.2);
       asked = ap (λ es. entry_at es p) z;
       folders = ap (λ es. is_folder_of es p) z;

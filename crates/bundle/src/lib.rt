@@ -1,18 +1,20 @@
 // The bundle (document 01, section 1): its files and folders. This is the only crate that asks a bundle for a path.
 #![tactic(auto)]
 
-ghost use Rattle.std.specs.Prelude.{◌≡◌, true};
+ghost use Rattle.std.specs.Prelude.{◌≡◌, true, List, ℕ};
+ghost use Rattle.rules.specs.Bytes.{parent};
 ghost use Rattle.rules.specs.Bundle.{above, bundle_of};
 ghost use Rattle.rules.specs.Answer.{is_some};
-ghost use Rattle.rules.specs.Files.{view, fetch, plain, opened, has_citation, project_root};
-ghost use Rattle.scan.specs.Sets.{part};
-ghost use Rattle.bundle_entries.specs.Entries.{Within};
+ghost use Rattle.rules.specs.Files.{view, fetch, opened, has_citation, project_root};
+ghost use Rattle.paths.specs.Joined.{text};
 ghost use Rattle.bundle.specs.Find.{Finds, entries_of};
-ghost use Rattle.bundle.specs.Open.{Opens, there, Root};
+ghost use Rattle.bundle.specs.Open.{Answers, there};
 
-use bundle_entries::{entry_at, path_of, word};
-use paths::{Range, is_path, join, parent};
+use bundle_entries::{entry_at, path_of};
+use paths::{Path, Range, is_path, join, parent};
 use refusal::Refusal;
+use scan::fields::word;
+use std::marker::Model;
 
 // What a path is in a bundle; a file's content is a part of the bundle.
 #[derive(Clone, Copy)]
@@ -20,6 +22,22 @@ pub enum Found {
     Absent,
     Folder,
     File(Range),
+}
+
+// A file that a text names: its path, and its text.
+#[derive(Clone, Copy)]
+pub struct File<'a> {
+    pub path: Path,
+    pub text: &'a [u8],
+}
+
+impl File<'_> {
+    // The folder of its path.
+    pub fn folder(&self) -> &[u8]
+        ensures { result.now ≡ parent (text self.now.path) }
+    {
+        parent(self.path.as_bytes())
+    }
 }
 
 // Does p, followed by `/`, begin q?
@@ -32,64 +50,6 @@ fn above(p: &[u8], q: &[u8]) -> bool
     scan::at(q, p.len(), b'/')
 }
 
-// Looks a path up in a bundle that keeps its layout.
-pub fn find(b: &[u8], path: &[u8]) -> Found
-    requires { is_some (bundle_of b.now) ≡ true }
-    ensures { Finds b.now (entries_of b.now) path.now result }
-{
-    let mut at: usize = 2;
-    let mut folder = false;
-    for done in 0..word(b, 0) {
-        let entry = entry_at(b, at).unwrap();
-        let own = path_of(b, entry).unwrap();
-        let here = own.as_bytes();
-        if scan::same(here, path) {
-            return Found::File(entry.content);
-        }
-        folder |= above(path, here);
-        at = entry.content.to;
-    }
-    if folder {
-        return Found::Folder;
-    }
-    Found::Absent
-}
-
-// A file's bytes: 4 where the path rule is broken, 5 where it is absent or a folder.
-pub fn fetch(b: &[u8], path: &[u8]) -> Result<Range, Refusal>
-    requires { is_some (bundle_of b.now) ≡ true }
-    ensures { Opens b.now (fetch (view (entries_of b.now)) path.now) result }
-{
-    if !is_path(path) {
-        return Err(Refusal::Path);
-    }
-    match find(b, path) {
-        Found::Absent => Err(Refusal::File),
-        Found::Folder => Err(Refusal::File),
-        Found::File(content) => Ok(content),
-    }
-}
-
-// A part of the bundle as a text: 6 where it holds a byte from 128.
-fn plain(b: &[u8], content: Range) -> Result<Range, Refusal>
-    requires { Within b.now content }
-    ensures { Opens b.now (plain (part b.now content.from content.to)) result }
-{
-    if scan::is_ascii(&b[content.from..content.to]) {
-        return Ok(content);
-    }
-    Err(Refusal::Byte)
-}
-
-// A file's text: 4, 5, then 6.
-pub fn open_text(b: &[u8], path: &[u8]) -> Result<Range, Refusal>
-    requires { is_some (bundle_of b.now) ≡ true }
-    ensures { Opens b.now (opened (view (entries_of b.now)) path.now) result }
-{
-    let content = fetch(b, path)?;
-    plain(b, content)
-}
-
 // Is there a file or a folder?
 fn exists(found: Found) -> bool
     ensures { result ≡ there found }
@@ -97,31 +57,107 @@ fn exists(found: Found) -> bool
     !matches!(found, Found::Absent)
 }
 
-// Has a folder `CITATION.cff`? Where that path would pass 255 bytes it is absent without asking.
-fn has_citation(b: &[u8], folder: &[u8]) -> bool
-    requires { is_some (bundle_of b.now) ≡ true }
-    ensures { result ≡ has_citation (view (entries_of b.now)) folder.now }
-{
-    match join(folder, b"CITATION.cff") {
-        None => false,
-        Some(path) => exists(find(b, path.as_bytes())),
-    }
+// A bundle that keeps its layout. A contract sees its bytes.
+#[derive(Drop)]
+pub struct Bundle<'a> {
+    bytes: &'a [u8],
 }
 
-// The nearest folder upward that has `CITATION.cff`, as a start of `folder`; else `folder` itself.
-pub fn project_root(b: &[u8], folder: &[u8]) -> usize
-    requires { is_some (bundle_of b.now) ≡ true }
-    ensures { Root folder.now (project_root (view (entries_of b.now)) folder.now) result }
-{
-    let mut n = folder.len();
-    while 0 < n {
-        if has_citation(b, &folder[..n]) {
-            return n;
+impl<'a> Model for Bundle<'a> {
+    ghost Value = { List ℕ };
+
+    ghost view = { λ b. b.bytes.now };
+
+    ghost invariant = { λ b. is_some (bundle_of b.bytes.now) ≡ true };
+}
+
+impl<'a> Bundle<'a> {
+    // The bundle of bytes that keep the layout.
+    pub fn new(bytes: &'a [u8]) -> Bundle<'a>
+        requires { is_some (bundle_of bytes.now) ≡ true }
+        ensures { result ≡ bytes.now }
+    {
+        Bundle { bytes }
+    }
+
+    // Its bytes.
+    pub fn bytes(&self) -> &'a [u8]
+        ensures { result.now ≡ self.now }
+    {
+        self.bytes
+    }
+
+    // Looks a path up.
+    pub fn find(&self, path: &[u8]) -> Found
+        ensures { Finds self.now (entries_of self.now) path.now result }
+    {
+        let b = self.bytes;
+        let mut at: usize = 2;
+        let mut folder = false;
+        for done in 0..word(b, 0) {
+            let entry = entry_at(b, at).unwrap();
+            let own = path_of(b, entry).unwrap();
+            let here = own.as_bytes();
+            if scan::same(here, path) {
+                return Found::File(entry.content);
+            }
+            folder |= above(path, here);
+            at = entry.content.to;
         }
-        n = parent(&folder[..n]);
+        if folder {
+            return Found::Folder;
+        }
+        Found::Absent
     }
-    if has_citation(b, b"") {
-        return 0;
+
+    // A file's bytes: 4 where the path rule is broken, 5 where it is absent or a folder.
+    pub fn fetch(&self, path: &[u8]) -> Result<&'a [u8], Refusal>
+        ensures { Answers (fetch (view (entries_of self.now)) path.now) result }
+    {
+        if !is_path(path) {
+            return Err(Refusal::Path);
+        }
+        match self.find(path) {
+            Found::Absent => Err(Refusal::File),
+            Found::Folder => Err(Refusal::File),
+            Found::File(content) => Ok(&self.bytes[content.from..content.to]),
+        }
     }
-    folder.len()
+
+    // A file's text: 4, 5, then 6 where it holds a byte from 128.
+    pub fn open_text(&self, path: &[u8]) -> Result<&'a [u8], Refusal>
+        ensures { Answers (opened (view (entries_of self.now)) path.now) result }
+    {
+        let text = self.fetch(path)?;
+        if !scan::is_ascii(text) {
+            return Err(Refusal::Byte);
+        }
+        Ok(text)
+    }
+
+    // Has a folder `CITATION.cff`? Where that path would pass 255 bytes it is absent without asking.
+    fn has_citation(&self, folder: &[u8]) -> bool
+        ensures { result ≡ has_citation (view (entries_of self.now)) folder.now }
+    {
+        match join(folder, b"CITATION.cff") {
+            None => false,
+            Some(path) => exists(self.find(path.as_bytes())),
+        }
+    }
+
+    // The nearest folder upward that has `CITATION.cff`; else `folder` itself.
+    pub fn project_root<'b>(&self, folder: &'b [u8]) -> &'b [u8]
+        ensures { result.now ≡ project_root (view (entries_of self.now)) folder.now }
+    {
+        let mut upward = folder;
+        loop {
+            if self.has_citation(upward) {
+                return upward;
+            }
+            if upward.is_empty() {
+                return folder;
+            }
+            upward = parent(upward);
+        }
+    }
 }

@@ -1,5 +1,5 @@
 -- One entry of a bundle: what reading its fields promises.
-use Rattle.std.specs.Prelude.{Option as Maybe, Some, None, ◌≡◌, refl, List, Bool, not, ◌&&◌, ◌||◌, ℕ, ◌+◌, ◌-◌, ◌*◌, ◌/◌, ◌^◌, ◌≤◌, ◌<◌, ltb, drop, get_or}
+use Rattle.std.specs.Prelude.{Option as Maybe, Some, None, ◌≡◌, refl, List, Bool, not, ◌&&◌, ℕ, ◌+◌, ◌-◌, ◌/◌, ◌^◌, ◌≤◌, ◌<◌, ltb, drop, get_or}
 use Rattle.std.proofs.Math.Path.{sym}
 use Rattle.std.proofs.Common.{ap, ◌∙◌}
 use Rattle.std.proofs.Math.Bool.{true, false}
@@ -9,98 +9,27 @@ use Rattle.std.specs.Int.Bits.{bit_and}
 use Rattle.std.proofs.lemmas.Nat.{and_mask}
 use Rattle.std.proofs.Math.Dec.{eqb}
 use Rattle.std.proofs.Math.ListN.{length, length-drop}
-use Rattle.std.proofs.Math.Seq.{drop-drop, length-take-le}
-use borrow.Author.Tests.{ltb-true, ltb-false, eqb-true, eqb-false}
-use Rattle.rules.specs.Reader.{empty, all, but}
+use Rattle.std.proofs.Math.Seq.{length-take-le}
+use Rattle.rules.specs.Reader.{all, but}
 use Rattle.rules.specs.Bytes.{holds, join}
-use Rattle.rules.specs.Layout.{Parser, bind, ◌>>=◌, ◌>>◌, pure, broken, require, bit, remaining, byte, word16, field, field_if, take_bytes}
+use Rattle.rules.specs.Layout.{Parser, bind, ◌>>=◌, ◌>>◌, pure, broken, require, bit, remaining, byte, word16, field, field_if}
 use Rattle.rules.specs.Bundle.{Entry, entry}
-use Rattle.rules.proofs.Laws.Bool.{or_elim, or-false-l, or-false-r}
-use Rattle.rules.proofs.Laws.Layout.{byte_at, byte-end, word-at, word_end, takes, takes-short, take-some}
-use Rattle.scan.specs.Sets.{part}
+use Rattle.rules.proofs.Laws.Layout.{byte_at, byte-end}
+use Rattle.scan.specs.Sets.{part, Within}
+use Rattle.scan.specs.Fields.{IsField, FieldAt}
 use Rattle.scan.specs.declared.Range.{Range}
 use Rattle.bundle_entries.specs.declared.Head.{Head}
 
--- A length of 16 bits or of 8.
-abbrev pub length_of : Bool → Parser ℕ
-length_of true = word16
-length_of false = byte
-
--- A field's bytes, once its length is read.
-unfoldable pub field_bytes : ℕ → Parser (List ℕ)
-field_bytes n = do
-  t ← take_bytes n
-  require (not (empty t))
-  pure t
-
--- A part lies inside a text.
-pub record Within (b : List ℕ) (r : Range) : Type 0 where
-  pub order : r.from ≤ r.to
-  pub inside : r.to ≤ length b
-
--- The parser p reads a part as a field at a place.
-pub record IsField (b : List ℕ) (p : Parser (List ℕ)) (i : ℕ) (r : Range) : Type 0 where
-  pub reads : p (drop i b) ≡ some (part b r.from r.to, drop r.to b)
-  pub within : Within b r
-
--- The field that the parser p reads at a place, or that it finds none.
-abbrev pub FieldAt : List ℕ → Parser (List ℕ) → ℕ → Maybe Range → Type 0
-FieldAt b p i (Some r) = IsField b p i r
-FieldAt b p i None = p (drop i b) ≡ none
-
-module _ (b : List ℕ) (s n : ℕ) (h : s ≤ length b) where
-  pub body_ok : (eqb n 0 || ltb (length b - s) n) ≡ false → IsField b (field_bytes n) s (record { from = s; to = s + n })
-  unfolding field_bytes ◌>>=◌ ◌>>◌ bind pure require
-  body_ok e =
-      let z = eqb-false n 0 (or-false-l (eqb n 0) _ e) in
-      let k = ltb-false (length b - s) n (or-false-r (eqb n 0) _ e) in
-      let l : n ≤ length (drop s b) = omega (arith, length-drop s b) in
-      let p : 0 < n = omega (arith, z) in
-      let q : s + n - s ≡ n = omega arith in
-      record { reads = rw (takes n (drop s b) l, take-some n (drop s b) p l, drop-drop n s b, q); within = record { order = omega arith; inside = omega arith } }
-
-  pub body-no : (eqb n 0 || ltb (length b - s) n) ≡ true → field_bytes n (drop s b) ≡ none
-  unfolding field_bytes ◌>>=◌ ◌>>◌ bind pure require broken take_bytes empty
-  body-no e = or_elim (eqb n 0) _ e none-zero none-short
-    where
-      none-zero : eqb n 0 ≡ true → field_bytes n (drop s b) ≡ none
-      none-zero q = rw (eqb-true n 0 q)
-
-      none-short : ltb (length b - s) n ≡ true → field_bytes n (drop s b) ≡ none
-      none-short q = rw (takes-short n (drop s b) (omega (arith, ltb-true (length b - s) n q, length-drop s b)))
-
-module _ (b : List ℕ) (i : ℕ) where
-  -- Behind its length.
-  field_of : (len : Parser ℕ) (n s : ℕ) → len (drop i b) ≡ some (n, drop s b) → (r : Maybe Range) → FieldAt b (field_bytes n) s r → FieldAt b (field len) i r
-  unfolding field field_bytes ◌>>=◌ bind
-  field_of len n s e (Some r) k = record { reads = rw e k.reads; within = k.within }
-  field_of len n s e None k = rw e k
-
-  pub short-of : i < length b → {n : ℕ} → n ≡ get_or b i 0 → (r : Maybe Range) → FieldAt b (field_bytes n) (i + 1) r → FieldAt b (field byte) i r
-  short-of h {n} e r k = field_of byte (get_or b i 0) (i + 1) (byte_at b i h) r (rw e at k)
-
-  pub long_of : i + 1 < length b → {n : ℕ} → n ≡ get_or b i 0 + 256 * get_or b (i + 1) 0 → (r : Maybe Range) → FieldAt b (field_bytes n) (i + 2) r → FieldAt b (field word16) i r
-  long_of h {n} e r k = field_of word16 (get_or b i 0 + 256 * get_or b (i + 1) 0) (i + 2) (word-at b i h) r (rw e at k)
-
-  field_end : (len : Parser ℕ) → len (drop i b) ≡ none → field len (drop i b) ≡ none
-  unfolding field ◌>>=◌ bind
-  field_end len e = rw e
-
-  pub short-end : length b ≤ i → field byte (drop i b) ≡ none
-  short-end h = field_end byte (byte-end b i h)
-
-  pub long-end : length b < i + 2 → field word16 (drop i b) ≡ none
-  long-end h = field_end word16 (word_end b i h)
-
-  -- A field that is named, or not.
-  pub field_off : (on : Bool) (len : Parser ℕ) → i ≤ length b → on ≡ false → IsField b (field_if on len) i (record { from = i; to = i })
+-- A field that is named, or not.
+module _ (b : List ℕ) (i : ℕ) (len : Parser ℕ) {c on : Bool} (q : c ≡ on) where
+  pub field_off : i ≤ length b → c ≡ false → IsField b (field_if on len) i (record { from = i; to = i })
   unfolding field_if pure
-  field_off on len h e = let z : i - i ≡ 0 = omega arith in record { reads = rw (e, z); within = record { order = omega arith; inside = h } }
+  field_off h e = let z : i - i ≡ 0 = omega arith in record { reads = rw (sym q ∙ e, z); behind = omega arith; within = record { order = omega arith; inside = h } }
 
-  pub field_on : {on wide c : Bool} → on ≡ true → wide ≡ c → (r : Maybe Range) → FieldAt b (field (length_of c)) i r → FieldAt b (field_if on (length_of wide)) i r
+  pub field_on : c ≡ true → (r : Maybe Range) → FieldAt b (field len) i r → FieldAt b (field_if on len) i r
   unfolding field_if
-  field_on e q (Some r) k = record { reads = rw (e, q) k.reads; within = k.within }
-  field_on e q None k = rw (e, q) k
+  field_on e (Some r) k = record { reads = rw (sym q ∙ e) k.reads; behind = k.behind; within = k.within }
+  field_on e None k = rw (sym q ∙ e) k
 
 -- Bit k of a map byte is its lowest one, once it is moved down.
 pub shifted : (k m : ℕ) → eqb (bit_and (m / 2 ^ k) 1) 1 ≡ bit k m
@@ -161,29 +90,26 @@ HeadAt b p i (Some h) = IsHead b p i h
 HeadAt b p i None = p (drop i b) ≡ none
 
 -- The ways through an entry's fields.
-module _ (b : List ℕ) (m i : ℕ) {s : Bool} (e : s ≡ bit 0 m) where
-  pub no-folder : field_if s byte (drop i b) ≡ none → entry_fields (length b) m (drop i b) ≡ none
+module _ (b : List ℕ) (m i : ℕ) where
+  pub no-folder : field_if (bit 0 m) byte (drop i b) ≡ none → entry_fields (length b) m (drop i b) ≡ none
   unfolding entry_fields ◌>>=◌ bind
-  no-folder h = rw (rw e at h)
+  no-folder h = rw h
 
-  module _ {g : Range} (G : IsField b (field_if s byte) i g) where
-    folder-read : field_if (bit 0 m) byte (drop i b) ≡ some (part b g.from g.to, drop g.to b)
-    folder-read = rw e at G.reads
-
+  module _ {g : Range} (G : IsField b (field_if (bit 0 m) byte) i g) where
     pub no-name : NameAt b g.to None → entry_fields (length b) m (drop i b) ≡ none
     unfolding entry_fields ◌>>=◌ bind
-    no-name N = rw folder-read (N _)
+    no-name N = rw G.reads (N _)
 
-    module _ {f : Range} (F : IsName b g.to f) {t : Bool} (d : t ≡ bit 2 m) where
-      behind : entry_fields (length b) m (drop i b) ≡ (field_if t word16 >>= (λ c. remaining >>= (λ l. pure (record { path = join (part b g.from g.to) (part b f.from f.to); start = length b - (length c + l); content = c })))) (drop f.to b)
+    module _ {f : Range} (F : IsName b g.to f) where
+      behind : entry_fields (length b) m (drop i b) ≡ (field_if (bit 2 m) word16 >>= (λ c. remaining >>= (λ l. pure (record { path = join (part b g.from g.to) (part b f.from f.to); start = length b - (length c + l); content = c })))) (drop f.to b)
       unfolding entry_fields ◌>>=◌ bind
-      behind = rw (folder-read, d) (F.reads _)
+      behind = rw G.reads (F.reads _)
 
-      pub no-content : field_if t word16 (drop f.to b) ≡ none → entry_fields (length b) m (drop i b) ≡ none
+      pub no-content : field_if (bit 2 m) word16 (drop f.to b) ≡ none → entry_fields (length b) m (drop i b) ≡ none
       unfolding ◌>>=◌ bind
       no-content h = behind ∙ rw h
 
-      pub all-fields : {c : Range} → IsField b (field_if t word16) f.to c → IsHead b (entry_fields (length b) m) i (record { folder = g; name = f; content = c })
+      pub all-fields : {c : Range} → IsField b (field_if (bit 2 m) word16) f.to c → IsHead b (entry_fields (length b) m) i (record { folder = g; name = f; content = c })
       unfolding entry_of bind ◌>>=◌ remaining pure
       all-fields {c} C =
           let k : c.to - c.from ≤ length (drop c.from b) = omega (arith, C.within.order, C.within.inside, length-drop c.from b) in

@@ -1,11 +1,11 @@
 -- A whole bundle, by its entries.
-use Rattle.std.specs.Prelude.{◌≡◌, refl, List, [], ◌++◌, Bool, true, false, ◌&&◌, ℕ, ◌+◌, ◌*◌, ◌<◌, leb, length, drop, get_or}
+use Rattle.std.specs.Prelude.{◌≡◌, refl, List, [], ◌++◌, Bool, true, false, ◌&&◌, ℕ, ◌<◌, leb, length, drop}
 use Rattle.std.proofs.Common.{sym, arith}
 use Rattle.std.proofs.Math.Option.{Option, none, some}
-use Rattle.rules.specs.Layout.{bind, ◌>>=◌, ◌>>◌, pure, require, broken, remaining, times}
+use Rattle.rules.specs.Layout.{bind, ◌>>=◌, ◌>>◌, pure, require, broken, remaining, times, word16}
 use Rattle.rules.specs.Bundle.{Entry, entry, good_paths, paths_of, bundle_parser, bundle_of}
 use Rattle.rules.specs.Answer.{is_some}
-use Rattle.rules.proofs.Laws.Layout.{word-at, word_end}
+use Rattle.rules.proofs.Laws.Layout.{word_end}
 
 -- What the bundle holds, by what is still to be read behind the entries es.
 unfoldable pub finish : ℕ → List Entry → Option (List Entry)
@@ -28,6 +28,6 @@ pub check-short : (b : List ℕ) → length b < 2 → false ≡ is_some (bundle_
 unfolding bundle_of bundle_parser ◌>>=◌ bind is_some
 check-short b h = sym (rw (word_end b 0 (omega arith)))
 
-pub bundle-rest : (b : List ℕ) → 1 < length b → bundle_of b ≡ closing [] (times (get_or b 0 0 + 256 * get_or b 1 0) (entry (length b)) (drop 2 b))
+pub bundle-rest : (b : List ℕ) {n : ℕ} → word16 b ≡ some (n, drop 2 b) → bundle_of b ≡ closing [] (times n (entry (length b)) (drop 2 b))
 unfolding bundle_of bundle_parser ◌>>=◌ bind
-bundle-rest b h = rw (word-at b 0 h) (opening (times (get_or b 0 0 + 256 * get_or b 1 0) (entry (length b)) (drop 2 b)))
+bundle-rest b {n} e = rw e (opening (times n (entry (length b)) (drop 2 b)))

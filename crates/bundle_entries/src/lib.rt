@@ -1,16 +1,18 @@
 // The entries of a bundle (document 01, section 1): a map byte, whose bits name the fields that follow; and an entry's path.
 #![tactic(auto)]
 
-ghost use Rattle.std.specs.Prelude.{◌≡◌, ◌+◌, ◌*◌, ◌≤◌, ◌<◌, length, get_or, ltb, not, ◌&&◌};
-ghost use Rattle.rules.specs.Layout.{bit, field, field_if, byte, word16};
+ghost use Rattle.std.specs.Prelude.{◌≡◌, ◌≤◌, ◌<◌, length, ltb, not, ◌&&◌};
+ghost use Rattle.rules.specs.Layout.{bit, field_if, byte, word16};
 ghost use Rattle.rules.specs.Bytes.{holds};
 ghost use Rattle.rules.specs.Bundle.{entry};
-ghost use Rattle.scan.specs.Sets.{part};
+ghost use Rattle.scan.specs.Sets.{part, Within};
+ghost use Rattle.scan.specs.Fields.{FieldAt};
 ghost use Rattle.paths.specs.Joined.{Joins};
-ghost use Rattle.bundle_entries.specs.Entries.{field_bytes, FieldAt, NameAt, HeadAt, Within, length_of, entry_fields};
+ghost use Rattle.bundle_entries.specs.Entries.{NameAt, HeadAt, entry_fields};
 
 use paths::{Path, Range, join};
 use scan::Set;
+use scan::fields::{long_field, short_field};
 
 // The bits of a map byte.
 const FOLDER: u32 = 0;
@@ -34,60 +36,13 @@ fn allowed(map: u8) -> bool
     (map < 8) & has(map, NAME)
 }
 
-// A number of 16 bits at a place, low byte first.
-pub fn word(b: &[u8], at: usize) -> usize
-    requires { at + 1 < length b.now }
-    ensures { result ≡ get_or b.now at 0 + 256 * get_or b.now (at + 1) 0 }
-{
-    usize::from(u16::from_le_bytes([b[at], b[at + 1]]))
-}
-
-// A field of so many bytes: 1 or more, and inside the bundle.
-fn body(b: &[u8], start: usize, len: usize) -> Option<Range>
-    requires { start ≤ length b.now }
-    ensures { FieldAt b.now (field_bytes len) start result }
-{
-    if (len == 0) | (b.len() - start < len) {
-        return None;
-    }
-    Some(Range {
-        from: start,
-        to: start + len,
-    })
-}
-
-// A field behind its length of 8 bits.
-fn short_field(b: &[u8], at: usize) -> Option<Range>
+// An entry's folder; empty where the map names none.
+fn folder(b: &[u8], at: usize, map: u8) -> Option<Range>
     requires { at ≤ length b.now }
-    ensures { FieldAt b.now (field byte) at result }
+    ensures { FieldAt b.now (field_if (bit 0 map) byte) at result }
 {
-    if b.len() <= at {
-        return None;
-    }
-    body(b, at + 1, usize::from(b[at]))
-}
-
-// A field behind its length of 16 bits, low byte first.
-fn long_field(b: &[u8], at: usize) -> Option<Range>
-    requires { at ≤ length b.now }
-    ensures { FieldAt b.now (field word16) at result }
-{
-    if b.len() - at < 2 {
-        return None;
-    }
-    body(b, at + 2, word(b, at))
-}
-
-// A field that a bit of the map names; unset means empty.
-fn field_if(b: &[u8], at: usize, on: bool, wide: bool) -> Option<Range>
-    requires { at ≤ length b.now }
-    ensures { FieldAt b.now (field_if on (length_of wide)) at result }
-{
-    if !on {
+    if !has(map, FOLDER) {
         return Some(Range { from: at, to: at });
-    }
-    if wide {
-        return long_field(b, at);
     }
     short_field(b, at)
 }
@@ -111,6 +66,17 @@ fn name(b: &[u8], at: usize) -> Option<Range>
     Some(name)
 }
 
+// An entry's content; empty where the map names none.
+fn content(b: &[u8], at: usize, map: u8) -> Option<Range>
+    requires { at ≤ length b.now }
+    ensures { FieldAt b.now (field_if (bit 2 map) word16) at result }
+{
+    if !has(map, CONTENT) {
+        return Some(Range { from: at, to: at });
+    }
+    long_field(b, at)
+}
+
 // An entry's places: its folder, its file name, its content. The next entry begins behind the content.
 #[derive(Clone, Copy)]
 pub struct Head {
@@ -124,9 +90,9 @@ fn fields(b: &[u8], at: usize, map: u8) -> Option<Head>
     requires { at ≤ length b.now }
     ensures { HeadAt b.now (entry_fields (length b.now) map) at result }
 {
-    let folder = field_if(b, at, has(map, FOLDER), false)?;
+    let folder = folder(b, at, map)?;
     let name = name(b, folder.to)?;
-    let content = field_if(b, name.to, has(map, CONTENT), true)?;
+    let content = content(b, name.to, map)?;
     Some(Head {
         folder,
         name,

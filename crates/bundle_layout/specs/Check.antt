@@ -1,6 +1,5 @@
 -- The walk over a bundle's entries: what is still to be read, and the paths so far.
-use Rattle.std.specs.Option.{is_some as filled}
-use Rattle.std.specs.Prelude.{Option as Maybe, Some, None, ◌≡◌, List, [], ◌∷◌, ◌++◌, Bool, ◌&&◌, ℕ, suc, ◌+◌, ◌-◌, ◌*◌, ◌≤◌, ◌<◌, eqb, leb, length, drop, get_or}
+use Rattle.std.specs.Prelude.{Option as Maybe, Some, None, ◌≡◌, List, [], ◌∷◌, ◌++◌, Bool, ◌&&◌, ℕ, suc, ◌+◌, ◌-◌, ◌≤◌, ◌<◌, eqb, leb, length, drop, get_or}
 use Rattle.std.proofs.Math.Path.{refl, ap}
 use Rattle.std.proofs.Common.{sym, ◌∙◌, append_assoc, append-nil, true≢false, arith, length-drop}
 use Rattle.std.proofs.Math.Bool.{true, false, and-false}
@@ -8,7 +7,7 @@ use Rattle.std.proofs.Math.Option.{Option, none, some}
 use Rattle.std.proofs.Math.Decide.{dec_le}
 use borrow.Author.Tests.{le-leb, lt-leb, eq-eqb, ne_eqb, not-true}
 use Rattle.rules.specs.Bytes.{is_path, less}
-use Rattle.rules.specs.Layout.{Parser, bind, ◌>>=◌, pure, times}
+use Rattle.rules.specs.Layout.{Parser, bind, ◌>>=◌, pure, times, word16}
 use Rattle.rules.specs.Bundle.{Entry, entry, good_paths, paths_of, bundle_of}
 use Rattle.rules.specs.Answer.{is_some}
 use Rattle.rules.proofs.Laws.Bool.{and_l, and_r}
@@ -24,7 +23,7 @@ use Rattle.bundle_layout.specs.declared.walk.Walk.{Walk}
 pub record Starts (w : Walk) : Type 0 where
   pub place : w.at ≡ 2
   pub none : text w.last ≡ []
-  pub clear : get_or w.files 0 0 ≡ 0
+  pub clear : get_or w.files 0 false ≡ false
 
 -- The paths so far, the last of which the walk holds.
 pub record Paths (ps : List (List ℕ)) (w : Walk) : Type 0 where
@@ -47,20 +46,30 @@ abbrev pub Next : List ℕ → Walk → Walk → Maybe Unit → Type 0
 Next b w r (Some u) = (es : List Entry) (n : ℕ) → Walked b es (suc n) w → (e : Entry) × Walked b (es ++ (e ∷ [])) n r
 Next b w r None = (es : List Entry) (n : ℕ) → Walked b es (suc n) w → bundle_of b ≡ none
 
+-- x is the bundle of the bytes b, which keep the layout.
+pub record IsBundle (b x : List ℕ) : Type 0 where
+  pub bytes : x ≡ b
+  pub layout : is_some (bundle_of b) ≡ true
+
+-- It is there, or the bytes break the layout.
+abbrev pub Checks : List ℕ → Maybe (List ℕ) → Type 0
+Checks b (Some x) = IsBundle b x
+Checks b None = is_some (bundle_of b) ≡ false
+
 -- THE WAYS THROUGH THE WALK.
-module _ {x q : List ℕ} {k : ℕ} (s : Agree x q k) (o : List ℕ) {c : Bool} (e : c ≡ keeps x q k o) where
+module _ {x q : List ℕ} {k : ℕ} (s : Agree x q k) (o : List Bool) {c : Bool} (e : c ≡ keeps x q k o) where
   pub keeps-inside : c ≡ true → k < length q
   unfolding keeps
   keeps-inside t = order-inside s refl (and_l (less x q) _ (and_r (is_path q) _ (sym e ∙ t)))
 
-  broken-at : {ps : List (List ℕ)} (a d f : Bool) → is_path q ≡ a → less x q ≡ d → (eqb (get_or q k 0) 47 && eqb (get_or o k 0) 1) ≡ f → c ≡ false → Well ps x → Marks ps x o → (rest : List (List ℕ)) → good_paths (ps ++ (q ∷ rest)) ≡ false
+  broken-at : {ps : List (List ℕ)} (a d f : Bool) → is_path q ≡ a → less x q ≡ d → (eqb (get_or q k 0) 47 && get_or o k false) ≡ f → c ≡ false → Well ps x → Marks ps x o → (rest : List (List ℕ)) → good_paths (ps ++ (q ∷ rest)) ≡ false
   unfolding keeps
   broken-at false d f p l g t w m rest = bad_path w q p rest
   broken-at true false f p l g t w m rest = bad_order w q l rest
   broken-at true true true p l g t w m rest = bad_clash w q s m (order-inside s refl l) g rest
   broken-at true true false p l g t w m rest = absurd (true≢false (sym (e ∙ rw (p, l, g)) ∙ t))
 
-module _ (x q : List ℕ) (k : ℕ) (o : List ℕ) (h : keeps x q k o ≡ true) where
+module _ (x q : List ℕ) (k : ℕ) (o : List Bool) (h : keeps x q k o ≡ true) where
   kept-path : is_path q ≡ true
   unfolding keeps
   kept-path = and_l (is_path q) _ h
@@ -69,7 +78,7 @@ module _ (x q : List ℕ) (k : ℕ) (o : List ℕ) (h : keeps x q k o ≡ true) 
   unfolding keeps
   kept-order = and_l (less x q) _ (and_r (is_path q) _ h)
 
-  kept-clash : (eqb (get_or q k 0) 47 && eqb (get_or o k 0) 1) ≡ false
+  kept-clash : (eqb (get_or q k 0) 47 && get_or o k false) ≡ false
   unfolding keeps
   kept-clash = not-true _ (and_r (less x q) _ (and_r (is_path q) _ h))
 
@@ -95,7 +104,7 @@ module _ (w : Walk) (p : Path) {x q : List ℕ} (a : x ≡ text w.last) (d : q �
       ordered : less (text w.last) (text p) ≡ true
       ordered = kept-order (text w.last) (text p) k w.files (sym kept)
 
-      slashless : (eqb (get_or (text p) k 0) 47 && eqb (get_or w.files k 0) 1) ≡ false
+      slashless : (eqb (get_or (text p) k 0) 47 && get_or w.files k false) ≡ false
       slashless = kept-clash (text w.last) (text p) k w.files (sym kept)
 
 -- ENTRIES read one by one.
@@ -176,13 +185,13 @@ module _ (b : List ℕ) (w : Walk) where
 abbrev pub Walking : List ℕ → ℕ → Walk → Type 0
 Walking b n w = (es : List Entry) × Walked b es n w
 
-pub walking_start : (b : List ℕ) {n : ℕ} → 1 < length b → n ≡ get_or b 0 0 + 256 * get_or b 1 0 → {w : Walk} → Starts w → Walking b (n - 0) w
+pub walking_start : (b : List ℕ) {n : ℕ} → 1 < length b → word16 b ≡ some (n, drop 2 b) → {w : Walk} → Starts w → Walking b (n - 0) w
 unfolding paths_of
 walking_start b {n} h e {w} s = (
   [],
   rw z (record {
     place = omega (arith, s.place);
-    rest = rw (s.place, e) (bundle-rest b h);
+    rest = rw s.place (bundle-rest b e);
     paths = record { well = rw s.none well-start; marks = rw s.none (record { on = λ l g m. absurd (unmarked l g m); off = λ l g i. absurd i }) };
   }),
 )
@@ -190,28 +199,26 @@ walking_start b {n} h e {w} s = (
     z : n - 0 ≡ n
     z = omega arith
 
-    unmarked : (l : ℕ) → l ≤ 0 → get_or w.files l 0 ≡ 1 → ⊥
-    unmarked l g m = let z : l ≡ 0 = omega arith in omega (arith, s.clear, rw z at m)
+    unmarked : (l : ℕ) → l ≤ 0 → get_or w.files l false ≡ true → ⊥
+    unmarked l g m = let z : l ≡ 0 = omega arith in true≢false (sym (rw z at m) ∙ s.clear)
 
 module _ (b : List ℕ) {n k : ℕ} {w : Walk} (h : k < n) (W : Walking b (n - k) w) (r : Walk) where
   last : Walked b W.0 (suc (n - (k + 1))) w
   last = let z : n - k ≡ suc (n - (k + 1)) = omega arith in rw z at W.1
 
-  pub walking_on : (u : Maybe Unit) → filled u ≡ true → Next b w r u → Walking b (n - (k + 1)) r
-  walking_on (Some u) e N = let x = N W.0 (n - (k + 1)) last in (W.0 ++ (x.0 ∷ []), x.1)
-  walking_on None e N = absurd (true≢false (sym e))
+  pub walking_on : {u : Unit {0}} → Next b w r (Some u) → Walking b (n - (k + 1)) r
+  walking_on N = let x = N W.0 (n - (k + 1)) last in (W.0 ++ (x.0 ∷ []), x.1)
 
-  pub walking-no : (u : Maybe Unit) → filled u ≡ false → Next b w r u → false ≡ is_some (bundle_of b)
+  pub walking-no : Next b w r None → is_some (bundle_of b) ≡ false
   unfolding is_some
-  walking-no (Some u) e N = absurd (true≢false e)
-  walking-no None e N = sym (rw (N W.0 (n - (k + 1)) last))
+  walking-no N = rw (N W.0 (n - (k + 1)) last)
 
-pub walking-end : (b : List ℕ) {n k : ℕ} {w : Walk} → n ≤ k → Walking b (n - k) w → eqb w.at (length b) ≡ is_some (bundle_of b)
+pub walking-end : (b : List ℕ) {n k : ℕ} {w : Walk} → n ≤ k → Walking b (n - k) w → is_some (bundle_of b) ≡ eqb w.at (length b)
 unfolding times pure closing
 walking-end b {n} {k} {w} h W =
     let z : n - k ≡ 0 = omega arith in
     let q : bundle_of b ≡ finish (length (drop w.at b)) (W.0 ++ []) = rw z at W.1.rest in
-    sym (ap is_some q ∙ finish-good (length (drop w.at b)) (W.0 ++ []) (ap (λ l. good_paths (paths_of l)) (append-nil W.0) ∙ well-good W.1.paths.well) ∙ whole w.at W.1.place)
+    ap is_some q ∙ finish-good (length (drop w.at b)) (W.0 ++ []) (ap (λ l. good_paths (paths_of l)) (append-nil W.0) ∙ well-good W.1.paths.well) ∙ whole w.at W.1.place
   where
     whole : (i : ℕ) → i ≤ length b → leb (length (drop i b)) 0 ≡ eqb i (length b)
     whole i g = at (dec_le (length b) i)

@@ -197,18 +197,18 @@ good-less [] q r g = path-some q (good-path [] q r g)
 good-less (p ∷ ps) q r g = asc_cut p ps q r (and_r (all is_path ((p ∷ ps) ++ (q ∷ r))) _ (good_1 (p ∷ ps) q r g))
 
 -- MARKS: which starts of the last path are paths themselves.
-pub record Marks (ps : List (List ℕ)) (x o : List ℕ) : Type 0 where
-  pub on : (l : ℕ) → l ≤ length x → get_or o l 0 ≡ 1 → In (take l x) ps
-  pub off : (l : ℕ) → l ≤ length x → In (take l x) ps → get_or o l 0 ≡ 1
+pub record Marks (ps : List (List ℕ)) (x : List ℕ) (o : List Bool) : Type 0 where
+  pub on : (l : ℕ) → l ≤ length x → get_or o l false ≡ true → In (take l x) ps
+  pub off : (l : ℕ) → l ≤ length x → In (take l x) ps → get_or o l false ≡ true
 
 -- The marks for a path of n bytes that agrees with the last one in k bytes.
-pub record Marked (o m : List ℕ) (k n : ℕ) : Type 0 where
-  pub kept : (l : ℕ) → l ≤ k → get_or m l 0 ≡ get_or o l 0
-  pub cleared : (l : ℕ) → k < l → l < n → get_or m l 0 ≡ 0
-  pub marked : get_or m n 0 ≡ 1
+pub record Marked (o m : List Bool) (k n : ℕ) : Type 0 where
+  pub kept : (l : ℕ) → l ≤ k → get_or m l false ≡ get_or o l false
+  pub cleared : (l : ℕ) → k < l → l < n → get_or m l false ≡ false
+  pub marked : get_or m n false ≡ true
   pub size : length m ≡ 256
 
-module _ {ps : List (List ℕ)} {x q o : List ℕ} {k : ℕ} (w : Well ps x) (s : Agree x q k) (m : Marks ps x o) (l : less x q ≡ true) where
+module _ {ps : List (List ℕ)} {x q : List ℕ} {o : List Bool} {k : ℕ} (w : Well ps x) (s : Agree x q k) (m : Marks ps x o) (l : less x q ≡ true) where
   -- A path of the list that begins q begins the last path too, and is no longer than they agree.
   begins : (p u : List ℕ) → In p ps → q ≡ p ++ u → ((v : List ℕ) × (x ≡ p ++ v)) × (length p ≤ k)
   begins p u i e =
@@ -225,10 +225,10 @@ module _ {ps : List (List ℕ)} {x q o : List ℕ} {k : ℕ} (w : Well ps x) (s 
           absurd (s.ends (omega arith) (omega arith) (c ∙ sym d))
 
   -- A path of the list that is a folder of q has as many bytes as agree, and is marked.
-  clash : (p : List ℕ) → In p ps → above p q ≡ true → (get_or q k 0 ≡ 47) × (get_or o k 0 ≡ 1)
+  clash : (p : List ℕ) → In p ps → above p q ≡ true → (get_or q k 0 ≡ 47) × (get_or o k false ≡ true)
   clash p i a = go (above-split p q a)
     where
-      go : ((r : List ℕ) × (q ≡ p ++ (47 ∷ r))) → (get_or q k 0 ≡ 47) × (get_or o k 0 ≡ 1)
+      go : ((r : List ℕ) × (q ≡ p ++ (47 ∷ r))) → (get_or q k 0 ≡ 47) × (get_or o k false ≡ true)
       go r = at (begins p (47 ∷ r.0) i r.1)
         where
           slash : get_or q (length p) 0 ≡ 47
@@ -242,24 +242,24 @@ module _ {ps : List (List ℕ)} {x q o : List ℕ} {k : ℕ} (w : Well ps x) (s 
               let xs : x ≡ p ++ (47 ∷ v) = e ∙ ap (λ z. p ++ (z ∷ v)) y47 in
               true≢false (sym (split-above p v) ∙ ap (above p) (sym xs) ∙ w.apart p x i (w.there p i))
 
-          at : ((v : List ℕ) × (x ≡ p ++ v)) × (length p ≤ k) → (get_or q k 0 ≡ 47) × (get_or o k 0 ≡ 1)
+          at : ((v : List ℕ) × (x ≡ p ++ v)) × (length p ≤ k) → (get_or q k 0 ≡ 47) × (get_or o k false ≡ true)
           at b = here (dec_le k (length p))
             where
-              here : Dec (k ≤ length p) → (get_or q k 0 ≡ 47) × (get_or o k 0 ≡ 1)
+              here : Dec (k ≤ length p) → (get_or q k 0 ≡ 47) × (get_or o k false ≡ true)
               here (no h) = absurd (longer b.0.0 b.0.1 (omega arith))
               here (yes h) =
                   let e : k ≡ length p = omega (arith, b.1) in
                   let t : take k x ≡ p = ap (take k) b.0.1 ∙ ap (λ z. take z (p ++ b.0.0)) e ∙ take-append_seam p b.0.0 in
                   (ap (λ z. get_or q z 0) e ∙ slash, m.off k s.short (rw t i))
 
-  no-clash : (eqb (get_or q k 0) 47 && eqb (get_or o k 0) 1) ≡ false → (p : List ℕ) → In p ps → above p q ≡ false
-  no-clash c p i = not-true (above p q) (λ a. let h = clash p i a in true≢false (sym (and_i _ _ (eq-eqb (get_or q k 0) 47 h.0) (eq-eqb (get_or o k 0) 1 h.1)) ∙ c))
+  no-clash : (eqb (get_or q k 0) 47 && get_or o k false) ≡ false → (p : List ℕ) → In p ps → above p q ≡ false
+  no-clash c p i = not-true (above p q) (λ a. let h = clash p i a in true≢false (sym (and_i _ _ (eq-eqb (get_or q k 0) 47 h.0) h.1) ∙ c))
 
   not_back : (p : List ℕ) → In p ps → above q p ≡ false
   not_back p i = not-true (above q p) (λ a. true≢false (sym (less-trans q p q (above-less q p a) (le-less p x q (w.below p i) l)) ∙ less_irrefl q))
 
   -- One path more.
-  pub well-on : is_path q ≡ true → (eqb (get_or q k 0) 47 && eqb (get_or o k 0) 1) ≡ false → Well (ps ++ (q ∷ [])) q
+  pub well-on : is_path q ≡ true → (eqb (get_or q k 0) 47 && get_or o k false) ≡ false → Well (ps ++ (q ∷ [])) q
   well-on h c = record {
     paths = in_all is_path (ps ++ (q ∷ [])) (λ p i. ⊎_elim (λ j. all_in is_path ps p w.paths j) (λ e. rw e h) (in_snoc p q ps i));
     upward = asc_on ps q w.upward (rw w.last at l);
@@ -275,33 +275,33 @@ module _ {ps : List (List ℕ)} {x q o : List ℕ} {k : ℕ} (w : Well ps x) (s 
       both p r (inr d) (inl j) = rw d (not_back r j)
       both p r (inr d) (inr e) = rw (d, e) (not-true (above q q) (λ a. true≢false (sym (above-less q q a) ∙ less_irrefl q)))
 
-  pub marks-on : {n : List ℕ} → k < length q → Marked o n k (length q) → Marks (ps ++ (q ∷ [])) q n
+  pub marks-on : {n : List Bool} → k < length q → Marked o n k (length q) → Marks (ps ++ (q ∷ [])) q n
   marks-on {n} h d = record { on = on; off = off }
     where
       start-same : (j : ℕ) → j ≤ k → take j x ≡ take j q
       start-same j g = sym (take-take j k x g) ∙ ap (take j) s.same ∙ take-take j k q g
 
-      on : (j : ℕ) → j ≤ length q → get_or n j 0 ≡ 1 → In (take j q) (ps ++ (q ∷ []))
+      on : (j : ℕ) → j ≤ length q → get_or n j false ≡ true → In (take j q) (ps ++ (q ∷ []))
       on j g e = low (dec_le j k)
         where
           high : Dec (length q ≤ j) → (j ≤ k → ⊥) → In (take j q) (ps ++ (q ∷ []))
           high (yes t) u = let z : j ≡ length q = omega arith in rw (z, take-length q) (in-mid q ps [])
-          high (no t) u = absurd (omega (arith, e, d.cleared j (omega (arith, u)) (omega arith)))
+          high (no t) u = absurd (true≢false (sym e ∙ d.cleared j (omega (arith, u)) (omega arith)))
 
           low : Dec (j ≤ k) → In (take j q) (ps ++ (q ∷ []))
           low (yes t) = let i : In (take j x) ps = m.on j (omega (arith, s.short)) (sym (d.kept j t) ∙ e) in in_left (take j q) ps (q ∷ []) (rw (start-same j t) at i)
           low (no t) = high (dec_le (length q) j) t
 
-      off : (j : ℕ) → j ≤ length q → In (take j q) (ps ++ (q ∷ [])) → get_or n j 0 ≡ 1
+      off : (j : ℕ) → j ≤ length q → In (take j q) (ps ++ (q ∷ [])) → get_or n j false ≡ true
       off j g i = ⊎_elim old new (in_snoc (take j q) q ps i)
         where
-          old : In (take j q) ps → get_or n j 0 ≡ 1
+          old : In (take j q) ps → get_or n j false ≡ true
           old i =
               let b = begins (take j q) (drop j q) i (sym (take-append-drop j q)) in
               let t : j ≤ k = omega (arith, b.1, length-take-le j q g) in
               d.kept j t ∙ m.off j (omega (arith, s.short)) (rw (start-same j t) i)
 
-          new : take j q ≡ q → get_or n j 0 ≡ 1
+          new : take j q ≡ q → get_or n j false ≡ true
           new e = let z : j ≡ length q = sym (length-take-le j q g) ∙ ap length e in rw z d.marked
 
 -- Paths that break a rule stay broken.
@@ -312,10 +312,10 @@ module _ {ps : List (List ℕ)} {x : List ℕ} (w : Well ps x) (q : List ℕ) wh
   pub bad_order : less x q ≡ false → (r : List (List ℕ)) → good_paths (ps ++ (q ∷ r)) ≡ false
   bad_order h r = not-true _ (λ g. true≢false (sym (good-less ps q r g) ∙ ap (λ z. less z q) (sym w.last) ∙ h))
 
-  pub bad_clash : {o : List ℕ} {k : ℕ} → Agree x q k → Marks ps x o → k < length q → (eqb (get_or q k 0) 47 && eqb (get_or o k 0) 1) ≡ true → (r : List (List ℕ)) → good_paths (ps ++ (q ∷ r)) ≡ false
+  pub bad_clash : {o : List Bool} {k : ℕ} → Agree x q k → Marks ps x o → k < length q → (eqb (get_or q k 0) 47 && get_or o k false) ≡ true → (r : List (List ℕ)) → good_paths (ps ++ (q ∷ r)) ≡ false
   bad_clash {o} {k} s m h c r =
       let a = eqb-true (get_or q k 0) 47 (and_l (eqb (get_or q k 0) 47) _ c) in
-      let b = eqb-true (get_or o k 0) 1 (and_r (eqb (get_or q k 0) 47) _ c) in
+      let b = and_r (eqb (get_or q k 0) 47) _ c in
       let i = m.on k s.short b in
       let e : q ≡ take k x ++ (47 ∷ drop (suc k) q) = split_at q k 0 h ∙ ap (λ z. z ++ (get_or q k 0 ∷ drop (suc k) q)) (sym s.same) ∙ ap (λ z. take k x ++ (z ∷ drop (suc k) q)) a in
       not-true _ (λ g. good-apart ps q r g (take k x) i (ap (above (take k x)) e ∙ split-above (take k x) (drop (suc k) q)))
@@ -346,10 +346,10 @@ module _ {x q : List ℕ} {i : ℕ} (s : Agreeing x q i) where
   agreeing_differ h = record { short = s.short; inside = s.inside; same = s.same; ends = λ a b e. h e }
 
 -- A path of n bytes may follow the last one.
-unfoldable pub keeps : List ℕ → List ℕ → ℕ → List ℕ → Bool
-keeps x q k o = is_path q && (less x q && not (eqb (get_or q k 0) 47 && eqb (get_or o k 0) 1))
+unfoldable pub keeps : List ℕ → List ℕ → ℕ → List Bool → Bool
+keeps x q k o = is_path q && (less x q && not (eqb (get_or q k 0) 47 && get_or o k false))
 
-module _ (x q : List ℕ) (k : ℕ) (o : List ℕ) where
+module _ (x q : List ℕ) (k : ℕ) (o : List Bool) where
   pub keeps-path : {c : Bool} → c ≡ is_path q → c ≡ false → false ≡ keeps x q k o
   unfolding keeps
   keeps-path e h = rw (sym e ∙ h)
@@ -358,7 +358,7 @@ module _ (x q : List ℕ) (k : ℕ) (o : List ℕ) where
   unfolding keeps
   keeps-order e h f g = rw (sym e ∙ h, sym f ∙ g)
 
-  pub keeps-clash : {c d r : Bool} → c ≡ is_path q → c ≡ true → d ≡ less x q → d ≡ true → r ≡ (eqb (get_or q k 0) 47 && eqb (get_or o k 0) 1) → not r ≡ keeps x q k o
+  pub keeps-clash : {c d r : Bool} → c ≡ is_path q → c ≡ true → d ≡ less x q → d ≡ true → r ≡ (eqb (get_or q k 0) 47 && get_or o k false) → not r ≡ keeps x q k o
   unfolding keeps
   keeps-clash e h f g t = rw (t, sym e ∙ h, sym f ∙ g)
 

@@ -1,28 +1,29 @@
 // The bundle's layout (document 01, section 1), checked: its entries one by one, their paths in order, and no path a folder of another.
 #![tactic(auto)]
 
-ghost use Rattle.std.specs.Prelude.{◌≡◌};
-ghost use Rattle.rules.specs.Bundle.{bundle_of};
-ghost use Rattle.rules.specs.Answer.{is_some};
+ghost use Rattle.bundle_layout.specs.Check.{Checks};
 
 mod order;
 mod walk;
 
-use bundle_entries::word;
+use bundle::Bundle;
+use scan::fields::word;
 use walk::Walk;
 
-// Does the bundle keep its layout?
-pub fn check(b: &[u8]) -> bool
-    ensures { result ≡ is_some (bundle_of b.now) }
+// The bundle of bytes that keep the layout; none where they break it.
+pub fn check(b: &[u8]) -> Option<Bundle<'_>>
+    ensures { Checks b.now result }
 {
     if b.len() < 2 {
-        return false;
+        return None;
     }
     let mut walk = Walk::start();
     for done in 0..word(b, 0) {
-        if walk.next(b).is_none() {
-            return false;
-        }
+        walk.next(b)?;
     }
-    walk.at == b.len()
+    let ended = walk.at == b.len();
+    if !ended {
+        return None;
+    }
+    Some(Bundle::new(b))
 }

@@ -1,11 +1,11 @@
 // The order of a bundle's paths, and no path that is a folder of another.
-ghost use Rattle.std.specs.Prelude.{◌≡◌, ◌&&◌, ◌≤◌, ◌<◌, eqb, length, get_or};
+ghost use Rattle.std.specs.Prelude.{◌≡◌, ◌&&◌, ◌≤◌, ◌<◌, eqb, false, length, get_or};
 ghost use Rattle.rules.specs.Bytes.{less};
 ghost use Rattle.bundle_layout.specs.Order.{Agree, Marked, keeps};
 
 use paths::is_path;
 
-// In how many bytes two paths agree from the start.
+// In how many bytes two paths agree from the start. A loop, since `zip` with `take_while` and `count` takes two instructions more for each byte.
 pub fn agree(x: &[u8], q: &[u8]) -> usize
     ensures { Agree x.now q.now result }
 {
@@ -33,15 +33,15 @@ fn ordered(x: &[u8], q: &[u8], k: usize) -> bool
 }
 
 // Is a marked start of q, of k bytes, a folder of q?
-fn clashes(q: &[u8], k: usize, files: &[u8; 256]) -> bool
+fn clashes(q: &[u8], k: usize, files: &[bool; 256]) -> bool
     requires { (k < length q.now) × (length q.now ≤ 255) }
-    ensures { result ≡ (eqb (get_or q.now k 0) 47 && eqb (get_or files.now k 0) 1) }
+    ensures { result ≡ (eqb (get_or q.now k 0) 47 && get_or files.now k false) }
 {
-    (q[k] == b'/') & (files[k] == 1)
+    (q[k] == b'/') & files[k]
 }
 
 // May the path q follow the last path x, with which it agrees in k bytes? `files` marks the starts of x that are paths.
-pub fn keeps(x: &[u8], q: &[u8], k: usize, files: &[u8; 256]) -> bool
+pub fn keeps(x: &[u8], q: &[u8], k: usize, files: &[bool; 256]) -> bool
     requires { Agree x.now q.now k × (length q.now ≤ 255) }
     ensures { result ≡ keeps x.now q.now k files.now }
 {
@@ -55,10 +55,10 @@ pub fn keeps(x: &[u8], q: &[u8], k: usize, files: &[u8; 256]) -> bool
 }
 
 // The marks for a last path of n bytes that agrees with the one before it in k bytes.
-pub fn mark(files: &mut [u8; 256], k: usize, n: usize)
+pub fn mark(files: &mut [bool; 256], k: usize, n: usize)
     requires { (k < n) × (n ≤ 255) }
     ensures { Marked files.old files.new k n }
 {
-    files[k + 1..n].fill(0);
-    files[n] = 1;
+    files[k + 1..n].fill(false);
+    files[n] = true;
 }

@@ -10,7 +10,7 @@ use paths::Path;
 pub struct Walk {
     pub at: usize,
     last: Path,
-    files: [u8; 256],
+    files: [bool; 256],
     ghost size: { length files ≡ 256 },
 }
 
@@ -24,7 +24,7 @@ impl Walk {
         Walk {
             at: 2,
             last: Path::empty(),
-            files: [0; 256],
+            files: [false; 256],
         }
     }
 

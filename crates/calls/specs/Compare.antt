@@ -1,8 +1,8 @@
 -- An expression compared with another text while it is read.
-use Rattle.std.specs.Prelude.{◌≡◌, List, [], ◌∷◌, ◌++◌, Bool, true, false, not, ◌&&◌, eqb, length, take, drop, get_or}
+use Rattle.std.specs.Prelude.{Some, None, ◌≡◌, List, [], ◌∷◌, ◌++◌, Bool, true, false, not, ◌&&◌, eqb, length, take, drop, get_or}
 use Rattle.std.proofs.Math.Path.{refl}
 use Rattle.std.proofs.Common.{sym, ap, ◌∙◌, true≢false, arith}
-use Prim.Native.Nat.{ℕ, zero, suc, ◌+◌, ◌-◌, ◌≤◌, ◌<◌}
+use Prim.Native.Nat.{ℕ, zero, suc, ◌+◌, ◌-◌, ◌≤◌}
 use Rattle.rules.specs.Reader.{if_r, ◌>>=◌, ◌>>◌, the, but, span, sees, skip, prefix, same, Turn, again, stop, loop, rounds}
 use Rattle.rules.specs.Bytes.{blank, line_blank}
 use Rattle.rules.specs.Sheet.{Lookup}
@@ -12,25 +12,24 @@ use Rattle.rules.proofs.Laws.Bool.{and_l, and_r, and_i, not-true, true-eqb, eqb-
 use Rattle.std.proofs.lemmas.Bool.{eqb-false, not-true as negated}
 use Rattle.rules.proofs.Laws.Sheet.{same_refl, same_eq}
 use Rattle.rules.proofs.Laws.Refusals.{Yields, yields_ret, yields_if, yields-bind, yields-then}
-use Rattle.scan.specs.Laws.{prefix-fits}
+use Rattle.scan.specs.Laws.{prefix-split}
 use Rattle.scan.specs.Sets.{Spans, Sees}
-use Rattle.rules.specs.Sheet.{resolve}
-use Rattle.sheet.specs.Find.{IsSheet}
 use Rattle.string_ends.specs.Ends.{Makes}
 use Rattle.string_ends.specs.Text.{ExpressionTo, expression-begun, round-inside, makes_none, makes-plus, expression-on}
 use Rattle.strings.specs.Looked.{ReadsTerm}
 use Rattle.calls.specs.declared.compare.Met.{Met}
-use Rattle.calls.specs.Met.{met_behind, Meets, meets-none, meets-more, met-more, met-same}
+use Rattle.calls.specs.Met.{Leaves, Meets, all_met, leaves-all, leaves-more, all-same}
+use Rattle.std.specs.Borrow.{Bor}
 
 -- An expression is read up to i, and compared: a at its start, z now.
-pub record Compares (sheet t : List ℕ) (a z : Met) (i : ℕ) : Type 0 where
+pub record Compares (look : Lookup) (t : List ℕ) (a z : Met) (i : ℕ) : Type 0 where
   pub inside : i ≤ length t
   pub text : List ℕ
   pub meets : Meets a text z
-  pub to : (s : IsSheet sheet) → ExpressionTo (resolve s.r) t i text
+  pub to : ExpressionTo look t i text
 
-pub compares-start : (sheet t : List ℕ) (a : Met) → Compares sheet t a a 0
-compares-start sheet t a = record { inside = omega arith; text = []; meets = meets-none a; to = λ s. expression-begun (resolve s.r) t }
+pub compares-start : (look : Lookup) (t : List ℕ) (a : Met) → Compares look t a a 0
+compares-start look t a = record { inside = omega arith; text = []; meets = leaves-all a.left; to = expression-begun look t }
 
 -- What an expression comes to begins with what was read of it.
 prefix-more : (v u w : List ℕ) → prefix v u ≡ true → prefix v (u ++ w) ≡ true
@@ -66,41 +65,38 @@ module _ (look : Lookup) (v : List ℕ) where
   loop-begins zero u t h = h
   loop-begins (suc n) u t h = loop-at n u t (expression_round look u t).0 refl ((round-begins u h).yields t) (loop-begins n)
 
--- What is compared from the start.
-abbrev pub Starts : Met → List ℕ → Type 0
-Starts a o = (a.other.now ≡ o) × (a.met ≡ 0)
-
-module _ {sheet o t : List ℕ} {a z : Met} (st : Starts a o) {n : ℕ} (x : Compares sheet t a z n) (i : IsSheet sheet) where
-  -- Past o, what has come differs from it, and so does the whole.
-  pub differs : length o < z.met → false ≡ same (expression (resolve i.r) t).0 o
-  unfolding rounds
-  differs h = at (same (expression (resolve i.r) t).0 o) refl
+-- It is compared from the start of l.
+module _ {look : Lookup} {t : List ℕ} {a z : Met} {l : Bor (List ℕ)} (st : a.left ≡ Some l) {n : ℕ} (x : Compares look t a z n) where
+  -- Where it differs already, the whole does.
+  pub differs : z.left ≡ None → false ≡ same (expression look t).0 l.now
+  unfolding rounds Leaves
+  differs h = at (same (expression look t).0 l.now) refl
     where
-      at : (d : Bool) → same (expression (resolve i.r) t).0 o ≡ d → false ≡ d
+      at : (d : Bool) → same (expression look t).0 l.now ≡ d → false ≡ d
       at false e = refl
       at true e =
-          let q = sym (ap (λ y. y.0) (x.to i).left) ∙ same_eq (expression (resolve i.r) t).0 o e in
-          let p : prefix x.text o ≡ true = sym (ap (prefix x.text) q) ∙ loop-begins (resolve i.r) x.text _ x.text (drop n t) (prefix_self x.text) in
-          let k : z.met ≡ met_behind o 0 x.text = rw (st.0, st.1) at x.meets.met in
-          absurd (omega (arith, h, k ∙ met-more o 0 (omega arith) x.text p, prefix-fits x.text o p))
+          let q = sym (same_eq (expression look t).0 l.now e) ∙ ap (λ y. y.0) x.to.left in
+          let p : prefix x.text l.now ≡ true = ap (prefix x.text) q ∙ loop-begins look x.text _ x.text (drop n t) (prefix_self x.text) in
+          let k : Leaves (Some l) x.text None = rw (st, h) at x.meets in
+          absurd (k _ (prefix-split x.text l.now p))
 
-  -- A round more. An expression that is read whole has met o where it is the same.
-  module _ {f : Bool} {k : ℕ} {y : Met} (r : ReadsTerm Meets sheet (take (length t - n) (drop n t)) f k z y) where
-    pub term_inside : n + k ≤ length t
-    term_inside = round-inside (x.to i) (r.round i)
+  -- A round more. An expression that is read whole is the same where all is met.
+  module _ {f : Bool} {k : ℕ} {y : Met} (r : ReadsTerm Meets look (take (length t - n) (drop n t)) f k z y) where
+    compared : {m : ℕ} → Makes (expression look t) t m (x.text ++ r.took) → all_met y.left ≡ same (expression look t).0 l.now
+    compared m = let k : Leaves (Some l) (x.text ++ r.took) y.left = rw st at (leaves-more _ _ _ _ _ x.meets r.taken) in rw m.text (all-same l _ _ k)
 
-    compared : {m : ℕ} → Makes (expression (resolve i.r) t) t m (x.text ++ r.took) → eqb y.met (length o) ≡ same (expression (resolve i.r) t).0 o
-    compared m = let k : y.met ≡ met_behind o 0 (x.text ++ r.took) = rw (st.0, st.1) at (meets-more x.meets r.taken).met in rw (k, m.text) (met-same o (x.text ++ r.took))
+    pub compared-none : f ≡ false → all_met y.left ≡ same (expression look t).0 l.now
+    compared-none e = compared (makes_none x.to r.round e)
 
-    pub compared-none : f ≡ false → eqb y.met (length o) ≡ same (expression (resolve i.r) t).0 o
-    compared-none e = compared (makes_none (x.to i) (r.round i) e)
+    pub compared-last : {j : ℕ} → f ≡ true → Spans line_blank t (n + k) j → Sees (the "+") t j false → all_met y.left ≡ same (expression look t).0 l.now
+    compared-last e s w = compared (makes-plus x.to r.round e s w)
 
-    pub compared-last : {j : ℕ} → f ≡ true → Spans line_blank t (n + k) j → Sees (the "+") t j false → eqb y.met (length o) ≡ same (expression (resolve i.r) t).0 o
-    compared-last e s w = compared (makes-plus (x.to i) (r.round i) e s w)
+module _ {look : Lookup} {t : List ℕ} {a z : Met} {n : ℕ} (x : Compares look t a z n) {f : Bool} {k : ℕ} {y : Met} (r : ReadsTerm Meets look (take (length t - n) (drop n t)) f k z y) where
+  pub term_inside : n + k ≤ length t
+  term_inside = round-inside x.to r.round
 
-module _ {sheet t : List ℕ} {a z : Met} {n : ℕ} (x : Compares sheet t a z n) {f : Bool} {k : ℕ} {y : Met} (r : ReadsTerm Meets sheet (take (length t - n) (drop n t)) f k z y) {j : ℕ} (e : f ≡ true) (s : Spans line_blank t (n + k) j) where
-  pub compares-on : Sees (the "+") t j true → Compares sheet t a y (j + 1)
-  compares-on w = record { inside = let h = w.there refl in omega arith; text = x.text ++ r.took; meets = meets-more x.meets r.taken; to = λ i. expression-on (x.to i) (r.round i) e s w }
+  pub compares-on : {j : ℕ} → f ≡ true → Spans line_blank t (n + k) j → Sees (the "+") t j true → Compares look t a y (j + 1)
+  compares-on e s w = record { inside = let h = w.there refl in omega arith; text = x.text ++ r.took; meets = leaves-more _ _ _ _ _ x.meets r.taken; to = expression-on x.to r.round e s w }
 
 -- For every lookup an expression's text is another than w.
 pub record Differs (t w : List ℕ) : Type 0 where

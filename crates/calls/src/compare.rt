@@ -3,18 +3,31 @@ ghost use Rattle.std.specs.Prelude.{◌≡◌, true};
 ghost use Rattle.rules.specs.Reader.{same};
 ghost use Rattle.rules.specs.Strings.{expression};
 ghost use Rattle.rules.specs.Sheet.{resolve};
-ghost use Rattle.sheet.specs.Find.{IsSheet};
+ghost use Rattle.sheet.specs.Records.{records_of};
 ghost use Rattle.calls.specs.Compare.{Differs};
-ghost use Rattle.calls.specs.Met.{met_behind, Meets, meets-none, meets-more};
+ghost use Rattle.calls.specs.Met.{Meets, all_met, leaves-all, leaves-more};
 
 use scan::Set;
+use sheet::Sheet;
 use string_ends::Pieces;
 
-// Another text, and how many of its bytes a text has met that comes piece by piece, one more than it has where they differ.
+// What is left of another text behind a text that comes piece by piece; none where it does not begin with that.
 #[derive(Clone, Copy)]
 struct Met<'a> {
-    other: &'a [u8],
-    met: usize,
+    left: Option<&'a [u8]>,
+}
+
+impl<'a> Met<'a> {
+    // Is all of it met?
+    #[tactic(auto, unfolding(crate::specs::Met::all_met))]
+    fn all(self) -> bool
+        ensures { result ≡ all_met self.entry.left }
+    {
+        match self.left {
+            Some(left) => left.len() == 0,
+            None => false,
+        }
+    }
 }
 
 impl<'a> Pieces for Met<'a> {
@@ -23,25 +36,14 @@ impl<'a> Pieces for Met<'a> {
     ghost Takes = { Meets };
 
     fn take(&mut self, piece: &[u8]) {
-        self.met = meet(self.other, self.met, piece);
+        if let Some(left) = self.left {
+            self.left = left.strip_prefix(piece);
+        }
     }
 
-    ghost none = { λ a r. meets-none a };
+    ghost none = { λ a r. leaves-all a.left };
 
-    ghost more = { λ a b c v w p q. meets-more p q };
-}
-
-// How many bytes of `other` have been met behind a piece, where they were `met` before it.
-fn meet(other: &[u8], met: usize, piece: &[u8]) -> usize
-    ensures { result ≡ met_behind other.now met piece.now }
-{
-    if other.len() < met {
-        return met;
-    }
-    if scan::starts_with(other, met, piece) {
-        return met + piece.len();
-    }
-    other.len() + 1
+    ghost more = { λ a b c v w p q. leaves-more a.left b.left c.left v w p q };
 }
 
 // Does an expression begin with a literal whose first byte, one that stands for itself, is another than the text's?
@@ -59,19 +61,18 @@ fn begins_otherwise(expression: &[u8], text: &[u8]) -> bool
 }
 
 // Is an expression's text the same as another text? They are compared while the expression is read, up to the first term that differs.
-pub fn is_text(text: &[u8], sheet: &[u8], other: &[u8]) -> bool
-    requires { IsSheet sheet.now }
-    ensures { (s : IsSheet sheet.now) → result ≡ same (expression (resolve s.r) text.now).0 other.now }
+pub fn is_text(text: &[u8], sheet: &Sheet<'_>, other: &[u8]) -> bool
+    ensures { result ≡ same (expression (resolve (records_of sheet.now)) text.now).0 other.now }
 {
     if begins_otherwise(text, other) {
         return false;
     }
-    let mut to = Met { other, met: 0 };
+    let mut to = Met { left: Some(other) };
     let mut i: usize = 0;
-    while to.met <= other.len() {
+    while to.left.is_some() {
         let r = strings::read_round(&text[i..], sheet, &mut to);
         i += r.used;
-        let same = to.met == other.len();
+        let same = to.all();
         if !r.found {
             return same;
         }

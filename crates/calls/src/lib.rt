@@ -4,17 +4,10 @@
 pub mod compare;
 pub mod measure;
 
-// What a call comes to: handed back; refused; an output, and whether the call ends on its own `)` or `]`.
-#[derive(Clone, Copy)]
-pub enum Outcome {
-    HandedBack,
-    Refused { number: u8 },
-    Output { whole: bool, next: usize },
-}
-
-// A call that was read: what it comes to, and where reading goes on.
+// A call that was read, and is not refused: does its output end on its own `)` or `]`, none where the call is handed back; how many bytes of its text
+// were read.
 #[derive(Clone, Copy)]
 pub struct Called {
-    pub outcome: Outcome,
-    pub at: usize,
+    pub whole: Option<bool>,
+    pub used: usize,
 }

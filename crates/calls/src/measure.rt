@@ -2,11 +2,11 @@
 ghost use Rattle.std.specs.Prelude.{◌≡◌, ◌+◌, ◌^◌, ◌<◌};
 ghost use Rattle.rules.specs.Strings.{literal, expression};
 ghost use Rattle.rules.specs.Sheet.{resolve};
-ghost use Rattle.sheet.specs.Find.{IsSheet};
-ghost use Rattle.buffers.specs.Put.{Writer};
-ghost use Rattle.calls.specs.Measure.{kept_behind, Measures, MeasuresRead, meter_start, measure_of, Meters, meters-none, meters-more};
+ghost use Rattle.sheet.specs.Records.{records_of};
+ghost use Rattle.calls.specs.Measure.{Counts, kept_behind, Measures, MeasuresRead, meter_start, Meters, meters-none, meters-more};
 
 use paths::trim_end;
+use sheet::Sheet;
 use string_ends::Pieces;
 
 // A text's length, and its length without trailing blanks; each exact up to the room, and one more than that where it is longer.
@@ -27,8 +27,7 @@ pub struct Measured {
 #[derive(Clone, Copy)]
 struct Meter {
     room: usize,
-    len: usize,
-    kept: usize,
+    size: Measure,
 }
 
 impl Meter {
@@ -37,29 +36,21 @@ impl Meter {
     {
         Meter {
             room,
-            len: 0,
-            kept: 0,
-        }
-    }
-
-    fn size(self) -> Measure
-        ensures { result ≡ measure_of self }
-    {
-        Measure {
-            len: self.len,
-            kept: self.kept,
+            size: Measure { len: 0, kept: 0 },
         }
     }
 }
 
 impl Pieces for Meter {
-    ghost Ready = { λ m. Writer m.room m.len };
+    ghost Ready = { λ m. Counts m.room m.size.len };
 
     ghost Takes = { Meters };
 
     fn take(&mut self, piece: &[u8]) {
-        self.kept = keep(self.room, self.len, self.kept, piece);
-        self.len = buffers::after(self.room, self.len, piece.len());
+        self.size = Measure {
+            len: buffers::after(self.room, self.size.len, piece.len()),
+            kept: keep(self.room, self.size.len, self.size.kept, piece),
+        };
     }
 
     ghost none = { λ a r. meters-none a r };
@@ -68,11 +59,12 @@ impl Pieces for Meter {
 }
 
 // Where a writer at p goes on behind a piece without its trailing blanks; at `kept` where the piece is nothing but blanks.
+#[tactic(auto, unfolding(crate::specs::Measure::kept_behind))]
 fn keep(room: usize, p: usize, kept: usize, piece: &[u8]) -> usize
     requires { room + 1 < 2 ^ 64 }
     ensures { result ≡ kept_behind room p kept piece.now }
 {
-    let n = trim_end(piece);
+    let n = trim_end(piece).len();
     if n == 0 {
         return kept;
     }
@@ -84,7 +76,7 @@ pub fn part(text: &[u8], room: usize) -> Measure
     requires { room + 1 < 2 ^ 64 }
     ensures { Measures room text.now result }
 {
-    let n = trim_end(text);
+    let n = trim_end(text).len();
     let len = buffers::after(room, 0, text.len());
     let kept = buffers::after(room, 0, n);
     Measure { len, kept }
@@ -99,19 +91,19 @@ pub fn literal(text: &[u8], room: usize) -> Measured
     let used = string_ends::literal(text, &mut to);
     Measured {
         used,
-        size: to.size(),
+        size: to.size,
     }
 }
 
 // An expression.
-pub fn expression(text: &[u8], sheet: &[u8], room: usize) -> Measured
-    requires { (room + 1 < 2 ^ 64) × IsSheet sheet.now }
-    ensures { (s : IsSheet sheet.now) → MeasuresRead room (expression (resolve s.r) text.now) text.now result }
+pub fn expression(text: &[u8], sheet: &Sheet<'_>, room: usize) -> Measured
+    requires { room + 1 < 2 ^ 64 }
+    ensures { MeasuresRead room (expression (resolve (records_of sheet.now)) text.now) text.now result }
 {
     let mut to = Meter::start(room);
     let used = strings::read_expression(text, sheet, &mut to);
     Measured {
         used,
-        size: to.size(),
+        size: to.size,
     }
 }

@@ -1,45 +1,41 @@
 -- The definitions call: the ways through it, before its buffers are cleared.
-use Rattle.std.specs.Prelude.{◌≡◌, List, Bool, true, false, ℕ, zero, suc, ◌+◌, ◌*◌, ◌-◌, ◌≤◌, ◌<◌, length, take}
-use Rattle.std.proofs.Math.Path.{sym, ap}
+use Rattle.std.specs.Prelude.{◌≡◌, List, Bool, true, false, ℕ, zero, suc, ◌+◌, ◌*◌, ◌-◌, ◌≤◌, ◌<◌, length, take, Result, Ok, Err, IfOk}
+use Rattle.std.proofs.Math.Path.{refl, sym, ap}
 use Rattle.std.proofs.Common.{◌∙◌, arith, add-zero, le-leb}
-use Rattle.std.proofs.Math.Nat.{sub-zero}
 use Rattle.std.proofs.lemmas.Bool.{lt-leb}
-use Rattle.rules.specs.Answer.{Answer, refused, ◌>>=◌, ◌>>◌, check, or_refuse, is_some}
+use Rattle.refusal.specs.declared.Refusal.{Refusal}
+use Rattle.refusal.specs.declared.Refusal.TheVariants.{Work, Bundle}
+use Rattle.refusal.specs.Numbers.{number}
+use Rattle.rules.specs.Answer.{Answer, refused, accepted, ◌>>=◌, ◌>>◌, check, or_refuse, is_some}
 use Rattle.rules.specs.Reader.{all}
 use Rattle.rules.specs.Bytes.{ascii, parent}
-use Rattle.rules.specs.Bundle.{Entry, bundle_of}
-use Rattle.rules.specs.Files.{view, fetch}
-use Rattle.rules.specs.Sheet.{Records, sheet_length}
+use Rattle.rules.specs.Bundle.{bundle_of}
+use Rattle.rules.specs.Files.{View, view, fetch, plain, opened}
+use Rattle.rules.specs.Sheet.{Records, encode}
 use Rattle.rules.specs.Imports.{file_sheet, imported_sheet, definitions}
-use Rattle.rules.specs.Calls.{limit, zeros, padded, defined_answer, parse_definitions_result}
+use Rattle.rules.specs.Calls.{limit, parse_definitions_result}
+use Rattle.rules.proofs.Laws.Answer.{accepted-same, bind_inv, check_inv}
 use Rattle.rules.proofs.Laws.Bool.{true-some, false-some}
 use Rattle.bundle.specs.Find.{entries_of, entries-some}
-use Rattle.bundle.specs.Open.{IsOpened}
-use Rattle.scan.specs.declared.Range.{Range}
-use Rattle.scan.specs.Sets.{part}
-use Rattle.paths.specs.Paths.{Parent}
 use Rattle.values.specs.Values.{slots, Room}
-use Rattle.definitions.specs.File.{Parses}
-use Rattle.definitions.specs.declared.files.Parsed.{Parsed}
-use Rattle.define.specs.declared.Outcome.{Outcome}
+use Rattle.binding.specs.declared.sheet_buffer.SheetBuffer.{SheetBuffer}
+use Rattle.binding.specs.Sheets.{sheet_in, ComesTo}
 use Rattle.arguments.specs.Given.{limit-le}
 
-abbrev pub refused_outcome : ℕ → Outcome
-refused_outcome k = record { number = k; sheet = 0 }
+-- The answer a has a sheet, which stands in the first bytes of the buffer c; or it is refused.
+abbrev pub HasSheet : Answer Records → List ℕ → Result ℕ Refusal → Type 0
+HasSheet a c (Ok n) = (s : Records) × (a ≡ accepted s) × (take n c ≡ encode s)
+HasSheet a c (Err refusal) = a ≡ refused (number refusal)
 
--- The sheet of the answer a stands at the start of `left`, or its number is answered; the buffers are not cleared.
-pub record Defines (a : Answer Records) (left left₂ work work₂ : List ℕ) (r : Outcome) : Type 0 where
+-- What the call leaves in its buffers, which are not cleared.
+pub record Defines (a : Answer Records) (left left₂ work work₂ : List ℕ) (r : Result ℕ Refusal) : Type 0 where
   pub left-size : length left₂ ≡ length left
   pub work-size : length work₂ ≡ length work
-  pub fits : r.sheet ≤ length left
-  pub is : defined_answer (length left) (length work) a ≡ record { number = r.number; sheet_len = r.sheet; left = padded (length left) (take r.sheet left₂); work = zeros (length work) }
+  pub fits : IfOk r (λ n. n ≤ length left)
+  pub is : HasSheet a left₂ r
 
-pub defines-refused : {a : Answer Records} {l l₂ w w₂ : List ℕ} {k : ℕ} {r : Outcome} → r ≡ refused_outcome k → length l₂ ≡ length l → length w₂ ≡ length w → a ≡ refused k → Defines a l l₂ w w₂ r
-unfolding defined_answer padded
-defines-refused {l = l} {w = w} e x y h = rw e (record { left-size = x; work-size = y; fits = omega arith; is = ap (defined_answer (length l) (length w)) h ∙ simp sub-zero })
-
-pub defines-same : {a c : Answer Records} {l l₂ w w₂ : List ℕ} {r : Outcome} → a ≡ c → Defines c l l₂ w w₂ r → Defines a l l₂ w w₂ r
-defines-same e d = rw (sym e) at d
+pub defines-refused : {a : Answer Records} {l l₂ w w₂ : List ℕ} {k : Refusal} {r : Result ℕ Refusal} → r ≡ Err k → length l₂ ≡ length l → length w₂ ≡ length w → a ≡ refused (number k) → Defines a l l₂ w w₂ r
+defines-refused e x y h = rw e (record { left-size = x; work-size = y; fits = tt; is = h })
 
 -- What the limit of a buffer is at most.
 pub limit-small : (n : ℕ) {r : ℕ} → r ≡ limit n → r ≤ 65535
@@ -49,7 +45,36 @@ limit-small n e = omega arith
 pub limit-within : (n : ℕ) {r : ℕ} → r ≡ limit n → r ≤ n
 limit-within n e = omega (arith, limit-le n)
 
--- THE ARGUMENTS: 1, 2, then its file.
+-- 16 × L has room for the slots of 15 levels, of imports and of dictionaries.
+more-slots : (L k d : ℕ) → slots L k ≤ slots L (k + d)
+unfolding slots
+more-slots L k zero = rw add-zero (omega arith)
+more-slots L k (suc d) = let e : k + suc d ≡ suc (k + d) = omega arith in rw e (omega (arith, more-slots L k d))
+
+pub define_room : {w : List ℕ} (k L : ℕ) → k ≤ 15 → L ≤ 65535 → 16 * L ≤ length w → Room w L k
+unfolding slots
+define_room k L h i j =
+    let e : k + (15 - k) ≡ 15 = omega arith in
+    let f : slots L k ≤ slots L 15 = rw e at (more-slots L k (15 - k)) in
+    record { fits = omega arith; most = i }
+
+-- A file that is fetched and read is the same as one that is opened and read: both tell 6 of a byte from 128.
+module _ (L : ℕ) (v : View) (g : List ℕ) where
+  plain-is : (t : List ℕ) → all ascii t ≡ true → plain t ≡ accepted t
+  unfolding plain check ◌>>◌
+  plain-is t q = rw q refl
+
+  read-plain : (t : List ℕ) (c : Bool) → all ascii t ≡ c → definitions L v g t ≡ (plain t >>= definitions L v g)
+  unfolding plain definitions file_sheet check ◌>>◌ ◌>>=◌
+  read-plain t true q = sym (ap (λ a. a >>= definitions L v g) (plain-is t q))
+  read-plain t false q = rw q refl
+
+  read-opened : (a : Answer (List ℕ)) → (a >>= definitions L v g) ≡ (a >>= plain >>= definitions L v g)
+  unfolding ◌>>=◌
+  read-opened (refused k) = refl
+  read-opened (accepted t) = read-plain t (all ascii t) refl
+
+-- THE ARGUMENTS: 1, 2, then its file: 4, 5, 6.
 module _ (b p : List ℕ) (l w : ℕ) where
   pub definitions-one : w < 16 * limit l → parse_definitions_result b p l w ≡ refused 1
   unfolding parse_definitions_result check ◌>>◌
@@ -61,63 +86,38 @@ module _ (b p : List ℕ) (l w : ℕ) where
     definitions-two e = rw (le-leb (16 * limit l) w h, false-some (bundle_of b) e)
 
     module _ (e : is_some (bundle_of b) ≡ true) where
-      abbrev Rest : List Entry → Answer (List ℕ) → Answer Records
-      Rest es a = a >>= λ c. definitions (limit l) (view es) (parent p) c
-
-      from-file : {a : Answer (List ℕ)} → fetch (view (entries_of b)) p ≡ a → parse_definitions_result b p l w ≡ Rest (entries_of b) a
-      unfolding parse_definitions_result check or_refuse ◌>>◌ ◌>>=◌
-      from-file f =
+      in-bundle : parse_definitions_result b p l w ≡ (opened (view (entries_of b)) p >>= definitions (limit l) (view (entries_of b)) (parent p))
+      unfolding parse_definitions_result opened check or_refuse ◌>>◌ ◌>>=◌
+      in-bundle =
           let x = true-some (bundle_of b) e in
           let y = entries-some b x.0 x.1 in
-          rw (le-leb (16 * limit l) w h, x.1) (ap (λ es. Rest es (fetch (view es) p)) (sym y)) ∙ ap (Rest (entries_of b)) f
+          rw (le-leb (16 * limit l) w h, x.1) (ap (λ es. fetch (view es) p >>= definitions (limit l) (view es) (parent p)) (sym y) ∙ read-opened (limit l) (view (entries_of b)) (parent p) (fetch (view (entries_of b)) p))
 
-      pub definitions-no : {k : ℕ} → fetch (view (entries_of b)) p ≡ refused k → parse_definitions_result b p l w ≡ refused k
+      pub definitions-no : {k : ℕ} → opened (view (entries_of b)) p ≡ refused k → parse_definitions_result b p l w ≡ refused k
       unfolding ◌>>=◌
-      definitions-no f = from-file f
+      definitions-no f = in-bundle ∙ ap (λ a. a >>= definitions (limit l) (view (entries_of b)) (parent p)) f
 
-      pub definitions-file : {r : Range} → IsOpened b (fetch (view (entries_of b)) p) r → parse_definitions_result b p l w ≡ definitions (limit l) (view (entries_of b)) (parent p) (part b r.from r.to)
-      unfolding ◌>>=◌
-      definitions-file o = from-file o.says
+      -- Its sheet, in a buffer with the limit L.
+      pub definitions-file : {t : List ℕ} → opened (view (entries_of b)) p ≡ accepted t → {L : ℕ} → L ≡ limit l → {g : List ℕ} → g ≡ parent p → parse_definitions_result b p l w ≡ file_sheet L (view (entries_of b)) (imported_sheet L (view (entries_of b)) 6) g t
+      unfolding definitions ◌>>=◌
+      definitions-file f q x = rw (q, x) (in-bundle ∙ ap (λ a. a >>= definitions (limit l) (view (entries_of b)) (parent p)) f)
 
--- THE FILE.
-more-slots : (L k d : ℕ) → slots L k ≤ slots L (k + d)
-unfolding slots
-more-slots L k zero = rw add-zero (omega arith)
-more-slots L k (suc d) = let e : k + suc d ≡ suc (k + d) = omega arith in rw e (omega (arith, more-slots L k d))
+-- An opened file has no byte from 128.
+pub opened-ascii : (v : View) (p : List ℕ) {t : List ℕ} → opened v p ≡ accepted t → all ascii t ≡ true
+unfolding opened plain
+opened-ascii v p f =
+    let y = bind_inv (fetch v p) plain f in
+    let z = check_inv 6 (all ascii y.0) (accepted y.0) y.2 in
+    rw (accepted-same z.1) at z.0
 
--- 16 × L has room for the slots of 15 levels, of imports and of dictionaries.
-pub define_room : {w : List ℕ} (k L : ℕ) → k ≤ 15 → L ≤ 65535 → 16 * L ≤ length w → Room w L k
-unfolding slots
-define_room k L h i j =
-    let e : k + (15 - k) ≡ 15 = omega arith in
-    let f : slots L k ≤ slots L 15 = rw e at (more-slots L k (15 - k)) in
-    record { fits = omega arith; most = i }
+-- READ: what is left in the buffer of the sheet S.
+module _ {a d : Answer Records} (same : a ≡ d) (S : SheetBuffer) {A : Type 0} {r : Result A Refusal} (z : ComesTo d S r) {l w w₂ : List ℕ} (long : length S.records.now.bytes.now ≡ length l) (y : length w₂ ≡ length w) where
+  pub defines-no : {k : Refusal} → r ≡ Err k → {o : Result ℕ Refusal} → o ≡ Err k → {c : List ℕ} → length c ≡ length l → Defines a l c w w₂ o
+  unfolding ComesTo
+  defines-no e x left = defines-refused x left y (same ∙ (rw e at z))
 
-module _ (b p : List ℕ) (f : Range) (l : List ℕ) where
-  abbrev Sheet-of : Answer Records
-  Sheet-of = definitions (limit (length l)) (view (entries_of b)) (parent p) (part b f.from f.to)
-
-  pub define_six : {c : Bool} → c ≡ all ascii (part b f.from f.to) → c ≡ false → Sheet-of ≡ refused 6
-  unfolding definitions file_sheet check ◌>>◌
-  define_six a e = rw (sym a ∙ e)
-
-  -- The file was read.
-  module _ {m : ℕ} (P : Parent p m) {L : ℕ} (q : L ≡ limit (length l)) {l₂ w w₂ : List ℕ} {r : Parsed}
-      (Z : Parses L (file_sheet L (view (entries_of b)) (imported_sheet L (view (entries_of b)) 6) (take m p) (part b f.from f.to)) l l₂ w w₂ r) where
-    reads : {a : Answer Records} → file_sheet L (view (entries_of b)) (imported_sheet L (view (entries_of b)) 6) (take m p) (part b f.from f.to) ≡ a → Sheet-of ≡ a
-    unfolding definitions
-    reads h = sym (ap (λ x. file_sheet x (view (entries_of b)) (imported_sheet x (view (entries_of b)) 6) (parent p) (part b f.from f.to)) q) ∙ ap (λ x. file_sheet L (view (entries_of b)) (imported_sheet L (view (entries_of b)) 6) x (part b f.from f.to)) (sym P.text) ∙ h
-
-    pub define_no : r.ok ≡ false → {o : Outcome} → o ≡ refused_outcome r.number → Defines Sheet-of l l₂ w w₂ o
-    define_no e h = defines-refused h Z.size Z.work-size (reads (Z.stops e))
-
-    pub define_done : r.ok ≡ true → Defines Sheet-of l l₂ w w₂ (record { number = 0; sheet = r.len })
-    unfolding defined_answer sheet_length
-    define_done e =
-        let g = Z.goes e in
-        record {
-          left-size = Z.size;
-          work-size = Z.work-size;
-          fits = omega (arith, g.2.fits, limit-le (length l));
-          is = ap (defined_answer (length l) (length w)) (reads g.1) ∙ λ i. record { number = 0; sheet_len = sym g.2.long i; left = padded (length l) (sym g.2.bytes i); work = zeros (length w) };
-        }
+  pub defines-sheet : {x : A} → r ≡ Ok x → (c : List ℕ) (n : ℕ) → c ≡ S.records.now.bytes.now → n ≡ S.records.now.len → Defines a l c w w₂ (Ok n)
+  unfolding ComesTo
+  defines-sheet e c n left m =
+      let fits : n ≤ length l = omega (arith, m, S.records.now.fits, S.records.now.room, long) in
+      record { left-size = ap length left ∙ long; work-size = y; fits = fits; is = (sheet_in S, same ∙ (rw e at z), (λ i. take (m i) (left i)) ∙ S.sheet.written) }

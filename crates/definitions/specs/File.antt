@@ -1,152 +1,71 @@
 -- A file of definitions, step by step, and the files that it imports.
-use Rattle.std.specs.Prelude.{◌≡◌, Bool, true, eqb, length, take}
-use Rattle.std.proofs.Math.Path.{refl, ap, subst}
-use Rattle.std.proofs.Common.{sym, ◌∙◌, true≢false, arith, drop_of_length-le, length-take-le, drop_at, le-leb, eqb-true}
-use mathlib.Core.List.{List, [], ◌∷◌, ◌++◌, append_assoc}
-use Rattle.std.proofs.Math.Bool.{false}
-use Prim.Native.Nat.{ℕ, zero, suc, ◌+◌, ◌-◌, ◌≤◌, ◌<◌}
+use Rattle.std.specs.Prelude.{◌≡◌, Bool, true, false, List, [], ◌∷◌, ℕ, zero, suc, ◌+◌, ◌-◌, ◌≤◌, ◌<◌, Some, None, eqb, length, take, drop}
+use Rattle.std.proofs.Math.Path.{refl, ap}
+use Rattle.std.proofs.Common.{sym, ◌∙◌, true≢false, arith, length-take-le, take-append-drop, le-leb, eqb-true}
 use Rattle.std.proofs.Math.Nat.{sub-zero}
-use Rattle.std.proofs.Math.ListN.{drop}
-use Rattle.std.proofs.lemmas.List.Edits.{sets, sets-eq}
-use Rattle.std.proofs.Math.Seq.{length-sets, take-append_seam}
 use Rattle.rules.specs.Answer.{Answer, refused, accepted, ◌>>=◌, ◌>>◌, check}
 use Rattle.rules.specs.Reader as Reader
 use Rattle.rules.specs.Reader.{all, bytes, prefix}
 use Rattle.rules.proofs.Laws.Bool.{and_l}
+use Rattle.rules.proofs.Laws.Texts.{all_right}
 use Rattle.rules.specs.Run.{ok, fail, and_then, Did, Step, Trace, step, run, write, limited}
-use Rattle.rules.specs.Bytes.{ascii}
+use Rattle.rules.specs.Bytes.{ascii, parent}
 use Rattle.rules.specs.Files.{View}
 use Rattle.rules.specs.Sheet.{Records, end, encode, sheet_length, good_records}
-use Rattle.rules.specs.Definitions.{Names, names, bound, definition_step}
+use Rattle.rules.specs.Definitions.{Names, names, bound, let_step, import_step, definition_step}
 use Rattle.rules.specs.Imports.{bind_names, imported, file_sheet, imported_sheet}
 use Rattle.rules.proofs.Laws.Enough.{run_at, run-first}
-use Rattle.scan.specs.Sets.{part, Spans, Starts, not_byte}
+use Rattle.scan.specs.Sets.{Spans, Starts, not_byte}
 use Rattle.scan.specs.Laws.{mark-yes, mark-no, mark_of, skip_at}
 use Rattle.scan.specs.Stretches.{spans-but}
-use Rattle.buffers.specs.Laws.{take-sets, stored-first}
 use Rattle.buffers.specs.Emits.{guard, guarded, limited-guarded}
-use Rattle.sheet.specs.Find.{IsSheet}
-use Rattle.places.specs.Mark.{Mark, mark-start}
-use Rattle.binding.specs.Use.{within-limit, Holds, holds-sheet, Keeps, keeps-holds}
-use Rattle.std.specs.Prelude.{Option as RustOption, Some, None}
-use Rattle.values.specs.Values.{slots, Room, room-two, room-behind, lent, lent-size, lent-first}
-use Rattle.imported_names.specs.Names.{Ready, IsBound, BindsNames}
-use Rattle.definitions.specs.Steps.{Comes, DefinesLet}
-use Rattle.definition_imports.specs.Import.{comes_to, ImportsAt}
+use Rattle.paths.specs.Joined.{text}
+use Rattle.std.proofs.lemmas.List.Edits.{sets}
+use Rattle.buffers.specs.Laws.{stored-first}
+use Rattle.sheet.specs.Records.{KeepsLayout, records_of, good-records_of, good-keeps}
+use Rattle.places.specs.Place.{Between, between_start}
+use Rattle.binding.specs.declared.buffer.RecordBuffer.{RecordBuffer}
+use Rattle.binding.specs.declared.sheet_buffer.SheetBuffer.{SheetBuffer}
+use Rattle.binding.specs.Buffer.{bytes_in, SameBuffer, same-refl}
+use Rattle.binding.specs.Sheets.{sheet_in, SameSheet, sheet-then}
+use Rattle.values.specs.Values.{slots, Room, room-rest}
+use Rattle.bundle.specs.declared.File.{File}
+use Rattle.definition_imports.specs.declared.Import.{Import}
+use Rattle.definition_imports.specs.Import.{comes_to, IsImport}
 use Rattle.definitions.specs.declared.steps.Stepped.{Stepped}
-use Rattle.definitions.specs.declared.files.Parsed.{Parsed}
-use Rattle.definition_imports.specs.declared.Target.TheVariants.{Nothing, Refused, File as Found_at}
-use Rattle.definition_imports.specs.declared.Imported.{Imported}
+use Rattle.definitions.specs.Steps.{IsStep, sheet-within, guard-refused}
 
-abbrev pub stepped : Bool → ℕ → ℕ → ℕ → ℕ → Stepped
-stepped o k at len last = record { ok = o; number = k; at = at; len = len; last = last }
+-- A step of a file in the folder g, with so many import levels left; its step `#import`.
+abbrev pub file_step : View → ℕ → List ℕ → ℕ → Step Records
+file_step v levels g L = definition_step L (imported L v (imported_sheet L v levels) g)
 
--- A step that came to a binding: 9, or the sheet's new length.
-unfoldable pub bound_step : RustOption ℕ → ℕ → ℕ → Stepped
-bound_step None at n = stepped false 9 at n 0
-bound_step (Some len) at n = stepped true 0 at len 0
+abbrev pub import_in : View → ℕ → List ℕ → ℕ → Step Records
+import_in v levels g L = import_step L (imported L v (imported_sheet L v levels) g)
 
--- The step f at a place, for the records in the first n bytes of l, which leaves m; the next step may search from r.last.
-pub record Steps (limit : ℕ) (f : Step Records) (t : List ℕ) (at : ℕ) (l : List ℕ) (n : ℕ) (m : List ℕ) (r : Stepped) : Type 0 where
-  pub size : length m ≡ length l
-  pub on : at < r.at
-  pub inside : r.at ≤ length t
-  pub does : (s : Records) → Holds s l n limit → Comes limit (f s (drop at t)) t m r
-  pub mark : r.ok ≡ true → Mark (take r.len m) r.last
-
--- A sheet in the first m bytes of l, and one that is saved in the first n bytes of w.
-pub record Swap (l : List ℕ) (m : ℕ) (w : List ℕ) (n limit : ℕ) : Type 0 where
-  pub fits : n ≤ limit
-  pub short : m ≤ limit
-  pub room : limit ≤ length l
-  pub space : limit + limit ≤ length w
-  pub most : limit ≤ 65535
-  pub kept : IsSheet (take n w)
-  pub other : IsSheet (take m l)
-
--- The names of the sheet in l are bound in the one that is saved in w; c holds what that comes to.
-pub record BindsImported (limit : ℕ) (ns : Names) (l : List ℕ) (m : ℕ) (w : List ℕ) (n : ℕ) (c : List ℕ) (o : RustOption ℕ) : Type 0 where
-  pub size : length c ≡ length l
-  pub binds : (s r : Records) → Holds s w n limit → Holds r l m limit → IsBound limit (bind_names limit s r ns) c o
-
--- The sheet of a file, or its refusal. The buffers l and w become c and o, and c holds the sheet.
-pub record Parses (limit : ℕ) (a : Answer Records) (l c w o : List ℕ) (r : Parsed) : Type 0 where
-  pub size : length c ≡ length l
-  pub work-size : length o ≡ length w
-  pub stops : r.ok ≡ false → a ≡ refused r.number
-  pub goes : r.ok ≡ true → (s : Records) × (a ≡ accepted s) × Holds s c r.len limit
-
--- LAWS. The same answer.
-pub steps_as : {limit : ℕ} {f : Step Records} {t : List ℕ} {at : ℕ} {l : List ℕ} {n : ℕ} {m : List ℕ} {r q : Stepped} → r ≡ q → Steps limit f t at l n m q → Steps limit f t at l n m r
-steps_as e h = rw e h
-
-pub over-step : {o : RustOption ℕ} {at n : ℕ} {r : Stepped} → o ≡ None → r ≡ stepped false 9 at n 0 → r ≡ bound_step o at n
-unfolding bound_step
-over-step e h = h ∙ rw e refl
-
-pub length-step : {o : RustOption ℕ} {at m : ℕ} (n : ℕ) {r : Stepped} → o ≡ Some m → r ≡ stepped true 0 at m 0 → r ≡ bound_step o at n
-unfolding bound_step
-length-step n e h = h ∙ rw e refl
-
--- A step that keeps the sheet, one that is refused, and one that leaves another sheet.
-module _ {limit : ℕ} {d : Did Records × List ℕ} {t : List ℕ} {s : Records} {l : List ℕ} {n : ℕ} (h : Holds s l n limit) (at : ℕ) where
-  comes-kept : {last : ℕ} → d ≡ (bound s (accepted s), drop at t) → Comes limit d t l (stepped true 0 at n last)
+-- LAWS. A step that keeps the sheet, and one that leaves another.
+module _ {d : Did Records × List ℕ} {t : List ℕ} {used : ℕ} (i : used ≤ length t) where
+  step-kept : (b : SheetBuffer) → d ≡ (bound (sheet_in b) (accepted (sheet_in b)), drop used t) → {last : ℕ} → Between (sheet_in b) last → IsStep d t b (record { used = used; last = last })
   unfolding bound
-  comes-kept e = record {
-    goes = λ z. record { emits = ap (λ q. q.0.emit) e; rest = ap (λ q. q.1) e; holds = subst (λ q. Holds q l n limit) (sym (ap (λ q. q.0.state) e)) h };
-    stops = λ z. absurd (true≢false z);
-  }
+  step-kept b e M = record { inside = i; emits = ap (λ x. x.0.emit) e; rest = ap (λ x. x.1) e; state = ap (λ x. x.0.state) e; mark = M }
 
-  comes-refused : {k len last : ℕ} {m : List ℕ} → d ≡ (bound s (refused k), drop at t) → Comes limit d t m (stepped false k at len last)
+  step-bound : (s : Records) (c : SheetBuffer) → d ≡ (bound s (accepted (sheet_in c)), drop used t) → IsStep d t c (record { used = used; last = 0 })
   unfolding bound
-  comes-refused {k} e = record {
-    goes = λ z. absurd (true≢false (sym z));
-    stops = λ z. ap (λ q. guard sheet_length limit q.0) e ∙ within-limit (bound s (refused k)) refl h;
-  }
+  step-bound s c e = record { inside = i; emits = ap (λ x. x.0.emit) e; rest = ap (λ x. x.1) e; state = ap (λ x. x.0.state) e; mark = between_start (sheet_in c) }
 
-  comes-bound : {a : Answer Records} {c : List ℕ} (o : RustOption ℕ) → d ≡ (bound s a, drop at t) → IsBound limit a c o → Comes limit d t c (bound_step o at n)
-  unfolding bound_step bound
-  comes-bound None e w = comes-refused (e ∙ ap (λ x. (bound s x, drop at t)) (w.over refl))
-  comes-bound {c = c} (Some len) e w =
-      let y = w.bound len refl in
-      let g = e ∙ ap (λ x. (bound s x, drop at t)) y.1 in
-      record {
-        goes = λ z. record { emits = ap (λ q. q.0.emit) g; rest = ap (λ q. q.1) g; holds = subst (λ q. Holds q c len limit) (sym (ap (λ q. q.0.state) g)) y.2 };
-        stops = λ z. absurd (true≢false z);
-      }
-
--- At a place where no `#import` stands, by whether a `//` or a `#let` does.
-module _ (limit : ℕ) {t : List ℕ} {at : ℕ} (there : at < length t) {p : Bool} (P : Starts (bytes "#import") t at p) (np : p ≡ false) {c : Bool} (C : Starts (bytes "//") t at c) (i : Records → List ℕ → Names → Answer Records) {l : List ℕ} {n last : ℕ} (M : Mark (take n l) last) where
-  pub other_comment : c ≡ true → {e : ℕ} → Spans (not_byte 10) t (at + 2) e → Steps limit (definition_step limit i) t at l n l (stepped true 0 e n last)
+-- At the start of a text where no `#import` stands, by whether a `//` or a `#let` does.
+module _ (b : SheetBuffer) {t : List ℕ} (there : 0 < length t) (P : Starts (bytes "#import") t 0 false) {c : Bool} (C : Starts (bytes "//") t 0 c) (i : Records → List ℕ → Names → Answer Records) where
+  pub other_comment : c ≡ true → {e : ℕ} → Spans (not_byte 10) t 2 e → {last : ℕ} → Between (sheet_in b) last → IsStep (definition_step b.records.now.limit i (sheet_in b) t) t b (record { used = e; last = last })
   unfolding definition_step Reader.◌>>=◌ Reader.◌>>◌ Reader.if_r Reader.ret
-  other_comment y X = record {
-    size = refl;
-    on = omega (arith, X.on);
-    inside = X.inside;
-    does = λ s h. comes-kept h _ (rw (mark-yes C y, (spans-but "\n" X).rest) refl);
-    mark = λ z. M;
-  }
+  other_comment y X M = step-kept X.inside b (rw (mark-yes C y, (spans-but "\n" X).rest) refl) M
 
-  module _ (nc : c ≡ false) {d : Bool} (D : Starts (bytes "#let") t at d) where
-    pub other-let : d ≡ true → {m : List ℕ} {r : Stepped} → DefinesLet limit t (at + 4) l n m r → Steps limit (definition_step limit i) t at l n m r
+  module _ (nc : c ≡ false) {d : Bool} (D : Starts (bytes "#let") t 0 d) where
+    pub other-let : d ≡ true → {u : List ℕ} → u ≡ drop 4 t → definition_step b.records.now.limit i (sheet_in b) t ≡ let_step b.records.now.limit i (sheet_in b) u
     unfolding definition_step Reader.◌>>=◌ Reader.◌>>◌ Reader.if_r
-    other-let y {m} {r} L = record {
-      size = L.size;
-      on = omega (arith, L.on);
-      inside = L.inside;
-      does = λ s h. subst (λ x. Comes limit x t m r) (sym (rw (mark-no C nc, mark-no P np, mark-yes D y) refl)) (L.does i s h);
-      mark = L.mark;
-    }
+    other-let y p = rw (mark-no C nc, mark-no P refl, mark-yes D y, p) refl
 
-    pub other-skip : d ≡ false → Steps limit (definition_step limit i) t at l n l (stepped true 0 (at + 1) n last)
+    pub other-skip : d ≡ false → {last : ℕ} → Between (sheet_in b) last → IsStep (definition_step b.records.now.limit i (sheet_in b) t) t b (record { used = 1; last = last })
     unfolding definition_step Reader.◌>>=◌ Reader.◌>>◌ Reader.if_r Reader.ret
-    other-skip nd = record {
-      size = refl;
-      on = omega arith;
-      inside = omega arith;
-      does = λ s h. comes-kept h _ (rw (mark-no C nc, mark-no P np, mark-no D nd, skip_at t at there) refl);
-      mark = λ z. M;
-    }
+    other-skip nd M = step-kept there b (rw (mark-no C nc, mark-no P refl, mark-no D nd, skip_at t 0 there) refl) M
 
 -- A `#import` is no `//`.
 no_comment : (u : List ℕ) → prefix (bytes "#import") u ≡ true → prefix (bytes "//") u ≡ false
@@ -154,108 +73,47 @@ unfolding prefix
 no_comment [] h = absurd (true≢false (sym h))
 no_comment (x ∷ xs) h = rw (sym (eqb-true 35 x (and_l (eqb 35 x) (prefix (bytes "import") xs) h))) refl
 
--- IMPORTS. At an `#import`.
-module _ (limit levels : ℕ) (v : View) (b g : List ℕ) {t : List ℕ} {at : ℕ} {p : Bool} (P : Starts (bytes "#import") t at p) (y : p ≡ true) {m : Imported} (I : ImportsAt v levels b g t (at + 7) m) (l : List ℕ) (n : ℕ) where
-  import-at : (s : Records) → definition_step limit (imported limit v (imported_sheet limit v levels) g) s (drop at t)
-      ≡ (bound s (comes_to limit v levels b m.path m.target s (names (drop m.names t)).0), drop m.next t)
-  unfolding definition_step Reader.◌>>=◌ Reader.◌>>◌ Reader.if_r
-  import-at s = rw (mark_of (bytes "//") (drop at t) false (no_comment (drop at t) (P.says ∙ y)), mark-yes P y) (I.does limit s)
+pub import-at : (v : View) (levels : ℕ) (g : List ℕ) (L : ℕ) (s : Records) {t : List ℕ} {p : Bool} → Starts (bytes "#import") t 0 p → p ≡ true → {u : List ℕ} → u ≡ drop 7 t → file_step v levels g L s t ≡ import_in v levels g L s u
+unfolding definition_step Reader.◌>>=◌ Reader.◌>>◌ Reader.if_r
+import-at v levels g L s {t} P y p = rw (mark_of (bytes "//") t false (no_comment t (P.says ∙ y)), mark-yes P y, p) refl
 
-  -- By what the import comes to.
-  import-steps : {c : List ℕ} {r : Stepped} → length c ≡ length l → r.at ≡ m.next → (r.ok ≡ true → Mark (take r.len c) r.last) →
-      ((s : Records) → Holds s l n limit → Comes limit (bound s (comes_to limit v levels b m.path m.target s (names (drop m.names t)).0), drop m.next t) t c r) →
-      Steps limit (definition_step limit (imported limit v (imported_sheet limit v levels) g)) t at l n c r
-  import-steps {c} {r} z e k f = record {
-    size = z;
-    on = omega (arith, I.on);
-    inside = omega (arith, I.inside);
-    does = λ s h. subst (λ x. Comes limit x t c r) (sym (import-at s)) (f s h);
-    mark = k;
-  }
+-- IMPORTS, from behind the mark, into the sheet of the buffer b.
+module _ (v : View) (levels : ℕ) (g t : List ℕ) (b : SheetBuffer) where
+  abbrev Step-of : Did Records × List ℕ
+  Step-of = import_in v levels g b.records.now.limit (sheet_in b) t
 
-  pub import-nothing : {last : ℕ} → Mark (take n l) last → m.target ≡ Nothing → Steps limit (definition_step limit (imported limit v (imported_sheet limit v levels) g)) t at l n l (stepped true 0 m.next n last)
-  unfolding comes_to
-  import-nothing M e = import-steps refl refl (λ z. M) (λ s h. comes-kept h _ (rw e refl))
+  pub import-refused : {k : ℕ} → ((L : ℕ) (s : Records) → (import_in v levels g L s t).0 ≡ bound s (refused k)) → guard sheet_length b.records.now.limit Step-of.0 ≡ fail k
+  import-refused f = guard-refused b (f b.records.now.limit (sheet_in b)) (same-refl b.records.now)
 
-  pub import-refused : {k : ℕ} → m.target ≡ Refused k → Steps limit (definition_step limit (imported limit v (imported_sheet limit v levels) g)) t at l n l (stepped false k m.next n 0)
-  unfolding comes_to
-  import-refused e = import-steps refl refl (λ z. absurd (true≢false (sym z))) (λ s h. comes-refused h _ (rw e refl))
-
-  -- A file, which is read into c.
-  module _ {a e q : ℕ} (z : m.target ≡ Found_at a e q) {c x o : List ℕ} {r : Parsed} (Z : Parses limit (file_sheet limit v (imported_sheet limit v (levels - 1)) (take q m.path) (part b a e)) l c x o r) where
-    file-comes : (s : Records) (x : Answer Records) → file_sheet limit v (imported_sheet limit v (levels - 1)) (take q m.path) (part b a e) ≡ x →
-        ◌≡◌ {A = Did Records × List ℕ} (bound s (comes_to limit v levels b m.path m.target s (names (drop m.names t)).0), drop m.next t) (bound s (x >>= λ o. bind_names limit s o (names (drop m.names t)).0), drop m.next t)
+  module _ {m : Import} (I : IsImport v levels g t m) where
+    pub import-nothing : m.file ≡ None → {last : ℕ} → Between (sheet_in b) last → IsStep Step-of t b (record { used = m.used; last = last })
     unfolding comes_to
-    file-comes s x f = rw (z, f) refl
+    import-nothing e M = step-kept I.inside b (I.does b.records.now.limit (sheet_in b) ∙ (rw e refl)) M
 
-    pub import-stopped : r.ok ≡ false → Steps limit (definition_step limit (imported limit v (imported_sheet limit v levels) g)) t at l n c (stepped false r.number m.next n 0)
-    unfolding ◌>>=◌
-    import-stopped f = import-steps Z.size refl (λ z. absurd (true≢false (sym z))) (λ s h. comes-refused h _ (file-comes s _ (Z.stops f)))
+    -- A file, whose folder is h.
+    module _ {f : File} (e : m.file ≡ Some f) {h : List ℕ} (p : h ≡ parent (text f.path)) where
+      abbrev Sheet-of : Answer Records
+      Sheet-of = file_sheet b.records.now.limit v (imported_sheet b.records.now.limit v (levels - 1)) h f.text.now
 
-    -- The names are bound in the sheet that was saved in w.
-    module _ (f : r.ok ≡ true) {w : List ℕ} {c₂ : List ℕ} {d : RustOption ℕ} (j : take n w ≡ take n l) (B : BindsImported limit (names (drop m.names t)).0 c r.len w n c₂ d) where
-      came : {s : Records} → Holds s l n limit → IsBound limit (bind_names limit s (Z.goes f).0 (names (drop m.names t)).0) c₂ d
-      came {s} h = B.binds s (Z.goes f).0 (record { bytes = j ∙ h.bytes; long = h.long; fits = h.fits; good = h.good }) (Z.goes f).2
+      file-comes : (x : Answer Records) → Sheet-of ≡ x → Step-of ≡ (bound (sheet_in b) (x >>= λ o. bind_names b.records.now.limit (sheet_in b) o (names m.names.now).0), drop m.used t)
+      unfolding comes_to
+      file-comes x z = I.does b.records.now.limit (sheet_in b) ∙ (rw (e, sym p, z) refl)
 
-      bound_at : (d : RustOption ℕ) → (bound_step d m.next n).at ≡ m.next
-      unfolding bound_step
-      bound_at None = refl
-      bound_at (Some k) = refl
-
-      bound-mark : (d : RustOption ℕ) {a : Answer Records} → IsBound limit a c₂ d → (bound_step d m.next n).ok ≡ true → Mark (take (bound_step d m.next n).len c₂) (bound_step d m.next n).last
-      unfolding bound_step
-      bound-mark None h z = absurd (true≢false (sym z))
-      bound-mark (Some k) h z = mark-start (holds-sheet (h.bound k refl).2)
-
-      pub import-bound : Keeps l n limit → Steps limit (definition_step limit (imported limit v (imported_sheet limit v levels) g)) t at l n c₂ (bound_step d m.next n)
+      pub import-stopped : {k : ℕ} → Sheet-of ≡ refused k → {r : RecordBuffer} → SameBuffer b.records.now r → guard sheet_length r.limit Step-of.0 ≡ fail k
       unfolding ◌>>=◌
-      import-bound K = import-steps (B.size ∙ Z.size) (bound_at d) (bound-mark d (came (keeps-holds K))) (λ s h. comes-bound h _ d (file-comes s _ (Z.goes f).1) (came h))
+      import-stopped z s = guard-refused b (ap (λ x. x.0) (file-comes _ z)) s
 
--- SHEETS that change places: w₁ is w with the sheet of l behind the limit, l₁ is l with the sheet of w.
-module _ {l : List ℕ} {m : ℕ} {w : List ℕ} {n limit : ℕ} (k : Swap l m w n limit) where
-  abbrev moved : List ℕ
-  moved = sets w limit (take m l)
+      -- Its sheet is that of c, and its names are bound in the one that was saved as z.
+      module _ (c : SheetBuffer) (Z : Sheet-of ≡ accepted (sheet_in c)) {z : List ℕ} (j : z ≡ bytes_in b.records.now) where
+        binding : {L : ℕ} → L ≡ b.records.now.limit → Step-of ≡ (bound (sheet_in b) (bind_names L (records_of z) (sheet_in c) (names m.names.now).0), drop m.used t)
+        unfolding ◌>>=◌
+        binding l = file-comes _ Z ∙ (rw (l, j) refl)
 
-  abbrev back : List ℕ
-  back = sets l 0 (take n moved)
+        pub import-over : {L : ℕ} → L ≡ b.records.now.limit → {k : ℕ} → bind_names L (records_of z) (sheet_in c) (names m.names.now).0 ≡ refused k → {r : RecordBuffer} → SameBuffer b.records.now r → guard sheet_length r.limit Step-of.0 ≡ fail k
+        import-over l y s = guard-refused b (ap (λ x. x.0) (binding l) ∙ ap (bound (sheet_in b)) y) s
 
-  first : length (take m l) ≡ m
-  first = length-take-le m l (omega (arith, k.short, k.room))
-
-  still : take n moved ≡ take n w
-  still = take-sets w limit (take m l) n k.fits
-
-  pub swap-first : m ≤ length l
-  swap-first = omega (arith, k.short, k.room)
-
-  pub swap-saved : n ≤ length moved
-  swap-saved = omega (arith, length-sets w limit (take m l), k.fits, k.space)
-
-  pub swap-end : limit + m ≤ length moved
-  swap-end = omega (arith, length-sets w limit (take m l), k.short, k.space)
-
-  saved : take n back ≡ take n w
-  saved =
-      let e : length (take n moved) ≡ n = length-take-le n moved swap-saved in
-      let f : take n back ≡ take (length (take n moved)) back = ap (λ x. take x back) (sym e) in
-      f ∙ stored-first l (take n moved) (omega (arith, k.fits, k.room)) ∙ still
-
-  other : part moved limit (limit + m) ≡ take m l
-  other =
-      let e : limit + m - limit ≡ length (take m l) = omega (arith, first) in
-      let f : limit + length (take m l) ≤ length w = omega (arith, first, k.short, k.space) in
-      let z : length (take limit w) ≡ limit = length-take-le limit w (omega (arith, k.space)) in
-      let g : drop limit moved ≡ take m l ++ drop (limit + length (take m l)) w = ap (drop limit) (sets-eq (take m l) w limit f ∙ append_assoc (take limit w) (take m l) (drop (limit + length (take m l)) w)) ∙ drop_at (take limit w) (take m l ++ drop (limit + length (take m l)) w) limit z in
-      ap (λ x. take x (drop limit moved)) e ∙ ap (take (length (take m l))) g ∙ take-append_seam (take m l) _
-
-  pub swap-ready : Ready (part moved limit (limit + m)) back n limit
-  swap-ready = record { keeps = record { fits = k.fits; room = omega (arith, length-sets l 0 (take n moved), k.room); most = k.most; sheet = rw saved k.kept }; from = rw other k.other }
-
-  pub swap-bound : {ns : Names} {c : List ℕ} {o : RustOption ℕ} → BindsNames ns (part moved limit (limit + m)) back n limit c o → BindsImported limit ns l m w n c o
-  swap-bound B = record {
-    size = B.size ∙ length-sets l 0 (take n moved);
-    binds = λ s r h g. B.binds (record { r = s; bytes = saved ∙ h.bytes; good = h.good }) (record { r = r; bytes = other ∙ g.bytes; good = g.good });
-  }
+        pub import-bound : {L : ℕ} → L ≡ b.records.now.limit → (d : SheetBuffer) → bind_names L (records_of z) (sheet_in c) (names m.names.now).0 ≡ accepted (sheet_in d) → IsStep Step-of t d (record { used = m.used; last = 0 })
+        import-bound l d y = step-bound I.inside (sheet_in b) d (binding l ∙ ap (λ a. (bound (sheet_in b) a, drop m.used t)) y)
 
 -- A LIMITED RUN, one step at a time.
 module _ {S : Type 0} (size : S → ℕ) (L full : ℕ) where
@@ -270,90 +128,95 @@ module _ {S : Type 0} (size : S → ℕ) (L full : ℕ) where
       at (refused k) = unfold ◌>>=◌ in refl
       at (accepted p) = unfold ◌>>=◌ in refl
 
--- A FILE, of which the text up to i is read.
-pub record Parsing (limit : ℕ) (f : Step Records) (t l c : List ℕ) (i len last : ℕ) : Type 0 where
-  pub inside : i ≤ length t
-  pub size : length c ≡ length l
-  pub s : Records
-  pub holds : Holds s c len limit
-  pub is : limited sheet_length limit 11 0 (run f end 0 t) ≡ limited sheet_length limit 11 0 (run f s 0 (drop i t))
-  pub mark : Mark (take len c) last
+-- What is left of a plain text.
+pub plain-behind : (k : ℕ) (t : List ℕ) → all ascii t ≡ true → {u : List ℕ} → u ≡ drop k t → all ascii u ≡ true
+plain-behind k t a e = rw e (all_right ascii (take k t) (drop k t) (ap (all ascii) (take-append-drop k t) ∙ a))
 
-pub parsing-start : (limit : ℕ) (f : Step Records) (t l : List ℕ) → Parsing limit f t l l 0 0 0
-unfolding encode sheet_length good_records
-parsing-start limit f t l = record { inside = omega arith; size = refl; s = end; holds = record { bytes = refl; long = refl; fits = omega arith; good = refl }; is = refl; mark = mark-start (record { r = end; bytes = refl; good = refl }) }
+-- A FILE, of which the text u is left. w: the buffer before.
+pub record Parsing (F : ℕ → Step Records) (t : List ℕ) (w c : SheetBuffer) (u : List ℕ) (last : ℕ) : Type 0 where
+  pub plain : all ascii u ≡ true
+  pub over : SameSheet w c
+  pub is : limited sheet_length w.records.now.limit 11 0 (run (F w.records.now.limit) end 0 t) ≡ limited sheet_length w.records.now.limit 11 0 (run (F w.records.now.limit) (sheet_in c) 0 u)
+  pub mark : Between (sheet_in c) last
 
-module _ {limit : ℕ} {f : Step Records} {t l c : List ℕ} {i len last : ℕ} (Q : Parsing limit f t l c i len last) where
-  pub parsing-keeps : limit ≤ length l → limit ≤ 65535 → Keeps c len limit
-  parsing-keeps h k = record { fits = Q.holds.fits; room = omega (arith, Q.size); most = k; sheet = holds-sheet Q.holds }
+pub parsing-start : (F : ℕ → Step Records) (t : List ℕ) (w c : SheetBuffer) → all ascii t ≡ true → SameSheet w c → bytes_in c.records.now ≡ [] → Parsing F t w c t 0
+unfolding good_records encode
+parsing-start F t w c a o e = record {
+  plain = a;
+  over = o;
+  is = ap (λ s. limited sheet_length w.records.now.limit 11 0 (run (F w.records.now.limit) s 0 t)) (sym (ap records_of e ∙ good-records_of end refl refl (omega arith)));
+  mark = between_start (sheet_in c);
+}
 
-  pub parsing-on : {m : List ℕ} {r : Stepped} → Steps limit f t i c len m r → r.ok ≡ true → Parsing limit f t l m r.at r.len r.last
-  parsing-on {m} {r} S y =
-      let b = (S.does Q.s Q.holds).goes y in
-      record {
-        inside = S.inside;
-        size = S.size ∙ Q.size;
-        s = (f Q.s (drop i t)).0.state;
-        holds = b.holds;
-        is = Q.is ∙ ap (limited sheet_length limit 11 0) (run_at f t Q.s i r.at S.on S.inside b.rest)
-            ∙ limited-goes sheet_length limit 11 0 (f Q.s (drop i t)).0 _ b.emits (omega (arith, b.holds.long, b.holds.fits));
-        mark = S.mark y;
-      }
+-- No bytes are a sheet without records.
+pub no-bytes : KeepsLayout []
+unfolding good_records encode
+no-bytes = good-keeps end refl refl (omega arith)
 
-  parsing-no : {m : List ℕ} {r : Stepped} → Steps limit f t i c len m r → r.ok ≡ false → i < length t → limited sheet_length limit 11 0 (run f end 0 t) ≡ refused r.number
-  parsing-no {r = r} S y h =
-      let u = run-first f Q.s t i h in
-      Q.is ∙ ap (limited sheet_length limit 11 0) u.1 ∙ limited-stops sheet_length limit 11 0 r.number (f Q.s (drop i t)).0 u.0 ((S.does Q.s Q.holds).stops y)
+module _ {F : ℕ → Step Records} {t : List ℕ} {w c : SheetBuffer} {u : List ℕ} {last : ℕ} (Q : Parsing F t w c u last) where
+  abbrev L : ℕ
+  L = w.records.now.limit
 
-  parsing-done : length t ≤ i → limited sheet_length limit 11 0 (run f end 0 t) ≡ accepted ([], Q.s)
-  unfolding run limited
-  parsing-done h = Q.is ∙ ap (λ x. limited sheet_length limit 11 0 (run f Q.s 0 x)) (drop_of_length-le t h)
+  pub parsing-on : {d : SheetBuffer} → SameSheet c d → {r : Stepped} → IsStep (F c.records.now.limit (sheet_in c) u) u d r → 0 < r.used → {x : List ℕ} → x ≡ drop r.used u → Parsing F t w d x r.last
+  parsing-on {d} y {r} S₀ o p =
+      let S : IsStep (F L (sheet_in c) u) u d r = rw Q.over.over.limit at S₀ in
+      let within : sheet_length (F L (sheet_in c) u).0.state ≤ L = omega (arith, sheet-within d, ap sheet_length S.state, y.over.limit, Q.over.over.limit) in
+      rw p (record {
+        plain = plain-behind r.used u Q.plain refl;
+        over = sheet-then Q.over y;
+        is = Q.is ∙ ap (limited sheet_length L 11 0) (run_at (F L) u (sheet_in c) 0 r.used o S.inside S.rest)
+            ∙ limited-goes sheet_length L 11 0 (F L (sheet_in c) u).0 _ S.emits within
+            ∙ ap (λ s. limited sheet_length L 11 0 (run (F L) s 0 (drop r.used u))) S.state;
+        mark = S.mark;
+      })
+
+  parsing-no : {r : RecordBuffer} → SameBuffer c.records.now r → {k : ℕ} → guard sheet_length r.limit (F c.records.now.limit (sheet_in c) u).0 ≡ fail k → 0 < length u → limited sheet_length L 11 0 (run (F L) end 0 t) ≡ refused k
+  parsing-no y {k} S h =
+      let x = run-first (F L) (sheet_in c) u 0 h in
+      Q.is ∙ ap (limited sheet_length L 11 0) x.1 ∙ limited-stops sheet_length L 11 0 k (F L (sheet_in c) u).0 x.0 (rw (y.limit, Q.over.over.limit) at S)
+
+  parsing-done : length u ≡ 0 → limited sheet_length L 11 0 (run (F L) end 0 t) ≡ accepted ([], sheet_in c)
+  parsing-done h = Q.is ∙ at u h
+    where
+      at : (u : List ℕ) → length u ≡ 0 → limited sheet_length L 11 0 (run (F L) (sheet_in c) 0 u) ≡ accepted ([], sheet_in c)
+      at [] z = unfold run limited in refl
+      at (x ∷ xs) z = absurd (omega arith)
 
 -- What a file came to.
-module _ (limit levels : ℕ) (v : View) (g : List ℕ) {t l c : List ℕ} {i len last : ℕ} (a : all ascii t ≡ true) (Q : Parsing limit (definition_step limit (imported limit v (imported_sheet limit v levels) g)) t l c i len last) where
-  pub parsed-no : {m : List ℕ} {r : Stepped} → Steps limit (definition_step limit (imported limit v (imported_sheet limit v levels) g)) t i c len m r → r.ok ≡ false → i < length t → {w o : List ℕ} → length o ≡ length w →
-      Parses limit (file_sheet limit v (imported_sheet limit v levels) g t) l m w o (record { ok = false; number = r.number; len = 0 })
+module _ (v : View) (levels : ℕ) (g : List ℕ) {t : List ℕ} (a : all ascii t ≡ true) {w c : SheetBuffer} {u : List ℕ} {last : ℕ} (Q : Parsing (file_step v levels g) t w c u last) where
+  pub parsed-no : {r : RecordBuffer} → SameBuffer c.records.now r → {k : ℕ} → guard sheet_length r.limit (file_step v levels g c.records.now.limit (sheet_in c) u).0 ≡ fail k → 0 < length u → file_sheet w.records.now.limit v (imported_sheet w.records.now.limit v levels) g t ≡ refused k
   unfolding file_sheet check ◌>>◌ ◌>>=◌
-  parsed-no S y h u = record { size = S.size ∙ Q.size; work-size = u; stops = λ z. rw (a, parsing-no Q S y h) refl; goes = λ z. absurd (true≢false (sym z)) }
+  parsed-no y S h = rw (a, parsing-no Q y S h) refl
 
-  pub parsed : length t ≤ i → {w o : List ℕ} → length o ≡ length w → Parses limit (file_sheet limit v (imported_sheet limit v levels) g t) l c w o (record { ok = true; number = 0; len = len })
+  pub parsed : length u ≡ 0 → file_sheet w.records.now.limit v (imported_sheet w.records.now.limit v levels) g t ≡ accepted (sheet_in c)
   unfolding file_sheet check ◌>>◌ ◌>>=◌
-  parsed h u = record { size = Q.size; work-size = u; stops = λ z. absurd (true≢false z); goes = λ z. (Q.s, rw (a, parsing-done Q h) refl, Q.holds) }
+  parsed h = rw (a, parsing-done Q h) refl
+
+-- The sheet of the buffer b, v, is saved at the start of w, which is w₂ then.
+module _ (b : SheetBuffer) {v : List ℕ} (e : v ≡ bytes_in b.records.now) where
+  saved-long : length v ≡ b.records.now.len
+  saved-long = ap length e ∙ length-take-le b.records.now.len b.records.now.bytes.now (omega (arith, b.records.now.fits, b.records.now.room))
+
+  module _ (w : List ℕ) {w₂ : List ℕ} (s : w₂ ≡ sets w 0 v) (h : b.records.now.limit ≤ length w) where
+    pub saved-bytes : take b.records.now.len w₂ ≡ bytes_in b.records.now
+    saved-bytes = ap (λ n. take n w₂) (sym saved-long) ∙ ap (take (length v)) s ∙ stored-first w v (omega (arith, saved-long, b.records.now.fits)) ∙ e
+
+    pub saved-sheet : KeepsLayout (take b.records.now.len w₂)
+    saved-sheet = rw saved-bytes b.sheet
+
+    pub saved-short : length (take b.records.now.len w₂) ≤ b.records.now.limit
+    saved-short = omega (arith, ap length saved-bytes, ap length e, saved-long, b.records.now.fits)
 
 -- ROOM. A slot for each import level, and those of a value.
-pub room-value : {w : List ℕ} {limit : ℕ} (levels : ℕ) → Room w limit (levels + 6) → Room w limit 6
-unfolding slots
-room-value {w} {limit} levels h = record { fits = omega (arith, more limit levels, h.fits); most = h.most }
-  where
-    more : (limit l : ℕ) → slots limit 6 ≤ slots limit (l + 6)
-    more limit zero = omega arith
-    more limit (suc l) = let e : suc l + 6 ≡ suc (l + 6) = omega arith in rw e (omega (arith, more limit l))
+module _ {w : List ℕ} {limit : ℕ} (levels : ℕ) (h : Room w limit (levels + 6)) where
+  pub room-value : Room w limit 6
+  unfolding slots
+  room-value = record { fits = omega (arith, more limit levels, h.fits); most = h.most }
+    where
+      more : (limit l : ℕ) → slots limit 6 ≤ slots limit (l + 6)
+      more limit zero = omega arith
+      more limit (suc l) = let e : suc l + 6 ≡ suc (l + 6) = omega arith in rw e (omega (arith, more limit l))
 
--- THE SHEET of a file that imports another: saved at the start of the work buffer, which is w₁ then; what lies behind the limit is lent and comes back as o.
-module _ {l : List ℕ} {n limit : ℕ} {w : List ℕ} (levels : ℕ) (K : Keeps l n limit) (R : Room w limit (levels + 6)) (h : 0 < levels) {w₁ : List ℕ} (q : w₁ ≡ sets w 0 (take n l)) where
-  long : length w₁ ≡ length w
-  long = ap length q ∙ length-sets w 0 (take n l)
-
-  pub save_two : limit + limit ≤ length w₁
-  save_two = room-two w₁ R (λ z. omega arith) long
-
-  pub save_room : Room (take (length w₁ - limit) (drop limit w₁)) limit (levels - 1 + 6)
-  save_room = let e : levels + 6 - 1 ≡ levels - 1 + 6 = omega arith in rw e at (room-behind w₁ R (λ z. omega arith) long)
-
-  kept : take n w₁ ≡ take n l
-  kept =
-      let e : length (take n l) ≡ n = length-take-le n l (omega (arith, K.fits, K.room)) in
-      ap (take n) q ∙ ap (λ x. take x (sets w 0 (take n l))) (sym e) ∙ stored-first w (take n l) (omega (arith, e, long, save_two, K.fits))
-
-  module _ {a : Answer Records} {c o : List ℕ} {r : Parsed} (Z : Parses limit a l c (take (length w₁ - limit) (drop limit w₁)) o r) where
-    abbrev behind : List ℕ
-    behind = lent limit w₁ o (omega (arith, save_two)) Z.work-size
-
-    pub lent-long : length behind ≡ length w
-    lent-long = lent-size limit w₁ o (omega (arith, save_two)) Z.work-size ∙ long
-
-    pub lent-saved : take n behind ≡ take n l
-    lent-saved = lent-first limit w₁ o (omega (arith, save_two)) Z.work-size n K.fits ∙ kept
-
-    pub lent-swap : r.ok ≡ true → Swap c r.len behind n limit
-    lent-swap y = let g = (Z.goes y).2 in record { fits = K.fits; short = g.fits; room = omega (arith, K.room, Z.size); space = omega (arith, lent-long, long, save_two); most = K.most; kept = rw lent-saved K.sheet; other = holds-sheet g }
+  -- Behind the first slot.
+  pub room-inner : 0 < levels → (p : List ℕ) → length p + limit ≡ length w → Room p limit (levels - 1 + 6)
+  room-inner k p e = let f : levels + 6 - 1 ≡ levels - 1 + 6 = omega arith in rw f at (room-rest h (λ z. omega arith) p e refl)

@@ -1,7 +1,7 @@
 -- The steps of a file of definitions.
-use Rattle.std.specs.Prelude.{◌≡◌, List, ◌++◌, true, false, ℕ, ◌≤◌, length, take, drop}
-use Rattle.std.proofs.Math.Path.{refl, ap, subst}
-use Rattle.std.proofs.Common.{sym, ◌∙◌, true≢false, arith, take-append-drop}
+use Rattle.std.specs.Prelude.{◌≡◌, List, ◌++◌, true, ℕ, ◌+◌, ◌≤◌, Result, Ok, Err, length, take, drop}
+use Rattle.std.proofs.Math.Path.{refl, ap}
+use Rattle.std.proofs.Common.{sym, ◌∙◌, arith, length-drop, length-take-le, drop-drop, le-leb}
 use Rattle.std.proofs.lemmas.Bool.{lt-leb}
 use Rattle.rules.specs.Answer.{Answer, refused, accepted}
 use Rattle.rules.specs.Reader.{ret, if_r, ◌>>=◌, ◌>>◌, bytes, either, all, mark, prefix}
@@ -10,42 +10,67 @@ use Rattle.rules.specs.Bytes.{ascii, blank, word, name_byte, underscored}
 use Rattle.rules.specs.Sheet.{Value, Records, encode, sheet_length, good_records, resolve, set}
 use Rattle.rules.specs.Definitions.{Names, value, dictionary_value, bound, let_bound, let_step, definition_step}
 use Rattle.rules.proofs.Laws.Bool.{and_r}
-use Rattle.rules.proofs.Laws.Texts.{all_right}
 use Rattle.rules.proofs.Laws.Numbers.{numbered_e}
 use Rattle.rules.proofs.Laws.Values.{numbered_or, did_has, reads_definition}
 use Rattle.scan.specs.Sets.{part, Spans}
-use Rattle.buffers.specs.Emits.{guard, guard-no}
-use Rattle.sheet.specs.Order.{underscored_if}
+use Rattle.buffers.specs.Emits.{guard, guard-yes, guard-no}
+use Rattle.refusal.specs.declared.Refusal.{Refusal}
+use Rattle.refusal.specs.Numbers.{number}
+use Rattle.sheet.specs.Records.{KeepsLayout, records_of, records-good, good-keeps, good-records_of}
 use Rattle.places.specs.Place.{Between}
-use Rattle.places.specs.Mark.{Mark, Marked, mark_of}
-use Rattle.binding.specs.Write.{IsSource, BindsAt}
-use Rattle.binding.specs.Use.{within-limit, Holds, holds-sheet, Keeps, keeps-holds, leaves-bytes, leaves-over}
-use Rattle.binding.specs.declared.Put.{Put}
-use Rattle.std.specs.Prelude.{Option as RustOption, Some, None}
+use Rattle.places.specs.Mark.{Marked, HasMark, good-ascending}
+use Rattle.binding.specs.declared.buffer.RecordBuffer.{RecordBuffer}
+use Rattle.binding.specs.declared.sheet_buffer.SheetBuffer.{SheetBuffer}
+use Rattle.binding.specs.Write.{IsSource}
+use Rattle.binding.specs.Buffer.{bytes_in, SameBuffer, Leaves, BindsAt}
+use Rattle.binding.specs.Sheets.{sheet_in}
 use Rattle.values.specs.declared.ValueRead.{ValueRead}
-use Rattle.values.specs.Values.{Taken, ReadsValue}
+use Rattle.values.specs.Values.{IsRead}
 use Rattle.definitions.specs.declared.steps.Stepped.{Stepped}
 
--- The step d binds, and m holds what it leaves.
-pub record Leaves (limit : ℕ) (d : Did Records × List ℕ) (t m : List ℕ) (r : Stepped) : Type 0 where
+-- The step d binds, and c holds the sheet that it leaves; t: the text that it reads. The next step may search from r.last.
+pub record IsStep (d : Did Records × List ℕ) (t : List ℕ) (c : SheetBuffer) (r : Stepped) : Type 0 where
+  pub inside : r.used ≤ length t
   pub emits : d.0.emit ≡ ok
-  pub rest : d.1 ≡ drop r.at t
-  pub holds : Holds d.0.state m r.len limit
+  pub rest : d.1 ≡ drop r.used t
+  pub state : d.0.state ≡ sheet_in c
+  pub mark : Between (sheet_in c) r.last
 
--- The step d, or its refusal.
-pub record Comes (limit : ℕ) (d : Did Records × List ℕ) (t m : List ℕ) (r : Stepped) : Type 0 where
-  pub goes : r.ok ≡ true → Leaves limit d t m r
-  pub stops : r.ok ≡ false → guard sheet_length limit d.0 ≡ fail r.number
+-- The step is done, or refused.
+abbrev pub Steps : Did Records × List ℕ → List ℕ → SheetBuffer → Result Stepped Refusal → Type 0
+Steps d t c (Ok r) = IsStep d t c r
+Steps d t c (Err k) = guard sheet_length c.records.now.limit d.0 ≡ fail (number k)
 
--- `#let` from `at` on, for the records in the first n bytes of l, which leaves m; the next step may search from where its record was put.
-pub record DefinesLet (limit : ℕ) (t : List ℕ) (at : ℕ) (l : List ℕ) (n : ℕ) (m : List ℕ) (r : Stepped) : Type 0 where
-  pub size : length m ≡ length l
-  pub on : at ≤ r.at
-  pub inside : r.at ≤ length t
-  pub does : (i : Records → List ℕ → Names → Answer Records) (s : Records) → Holds s l n limit → Comes limit (let_step limit i s (drop at t)) t m r
-  pub mark : r.ok ≡ true → Mark (take r.len m) r.last
+-- LAWS. The sheet in a buffer is within its limit.
+pub sheet-within : (b : SheetBuffer) → sheet_length (sheet_in b) ≤ b.records.now.limit
+unfolding sheet_length
+sheet-within b = omega (arith, ap length b.sheet.written, length-take-le b.records.now.len b.records.now.bytes.now (omega (arith, b.records.now.fits, b.records.now.room)), b.records.now.fits)
 
--- LAWS. What a `#let` leaves is good.
+-- At a place between its records a name may be searched for.
+module _ (b : SheetBuffer) {i : ℕ} (m : Between (sheet_in b) i) where
+  pub marked-in : Marked (bytes_in b.records.now) (sheet_in b) i
+  marked-in = record { bytes = b.sheet.written; between = m; order = λ _. good-ascending (sheet_in b) word 6 (records-good (bytes_in b.records.now)) }
+
+  pub has-mark-in : HasMark (bytes_in b.records.now) i
+  has-mark-in = record { r = sheet_in b; marked = marked-in }
+
+-- A step behind a mark of k bytes.
+module _ {t u : List ℕ} {k : ℕ} (h : k ≤ length t) (p : u ≡ drop k t) {d : Did Records × List ℕ} {g : Did Records × List ℕ} (e : g ≡ d) {c : SheetBuffer} where
+  pub step-behind : {r q : Stepped} → IsStep d u c r → q ≡ record { used = k + r.used; last = r.last } → IsStep g t c q
+  step-behind {r} S z = rw (z, e) (record {
+    inside = omega (arith, S.inside, ap length p, length-drop k t);
+    emits = S.emits;
+    rest = S.rest ∙ ap (drop r.used) p ∙ drop-drop r.used k t;
+    state = S.state;
+    mark = S.mark;
+  })
+
+-- A refused step leaves the sheet as it was, for the guard.
+pub guard-refused : (b : SheetBuffer) {d : Did Records} {k : ℕ} → d ≡ bound (sheet_in b) (refused k) → {r : RecordBuffer} → SameBuffer b.records.now r → guard sheet_length r.limit d ≡ fail k
+unfolding bound
+guard-refused b {k = k} e {r} s = ap (guard sheet_length r.limit) e ∙ guard-yes sheet_length r.limit (bound (sheet_in b) (refused k)) (le-leb (sheet_length (sheet_in b)) r.limit (omega (arith, sheet-within b, s.limit)))
+
+-- What a `#let` leaves is good.
 same : Records → List ℕ → Names → Answer Records
 same s p n = accepted s
 
@@ -55,93 +80,77 @@ good-let L i s t a g =
     let d = (let_step L i s t).0 in
     and_r (numbered_e d.emit) (good_records d.state word 6) ((reads_definition L same (λ s p n h k. h) s g).reads (bytes "#let" ++ t) a).answer
 
-module _ (limit : ℕ) {t : List ℕ} {at a b e : ℕ} (X : Spans blank t at a) (Y : Spans name_byte t a b) (Z : Spans (either "=" blank) t b e) where
-  let-reads : (i : Records → List ℕ → Names → Answer Records) (s : Records) → let_step limit i s (drop at t) ≡ (let_bound s (underscored (part t a b)) (value limit (resolve s) (dictionary_value limit (resolve s) 6) (drop e t)).0, (value limit (resolve s) (dictionary_value limit (resolve s) 6) (drop e t)).1)
+-- A `#let`, in the sheet of the buffer b.
+module _ (b : SheetBuffer) (i : Records → List ℕ → Names → Answer Records) {t : List ℕ} {a m e : ℕ} (X : Spans blank t 0 a) (Y : Spans name_byte t a m) (Z : Spans (either "=" blank) t m e) {u : List ℕ} (tail : u ≡ drop e t) where
+  abbrev limit : ℕ
+  limit = b.records.now.limit
+
+  abbrev s : Records
+  s = sheet_in b
+
+  abbrev name : List ℕ
+  name = underscored (part t a m)
+
+  abbrev Value-of : Answer Value × List ℕ
+  Value-of = value limit (resolve s) (dictionary_value limit (resolve s) 6) u
+
+  let-reads : let_step limit i s t ≡ (let_bound s name Value-of.0, Value-of.1)
   unfolding let_step ◌>>=◌ ◌>>◌ ret
-  let-reads i s = rw (X.rest, Y.rest, Y.took, Z.rest) refl
+  let-reads = rw (X.rest, Y.rest, Y.took, Z.rest, tail) refl
 
-  module _ {l : List ℕ} {n : ℕ} {w w₂ : List ℕ} {v : ValueRead} (R : ReadsValue limit (λ look. value limit look (dictionary_value limit look 6)) t e (take n l) w w₂ v) where
-    pub let-no : v.ok ≡ false → DefinesLet limit t at l n l (record { ok = false; number = v.number; at = v.at; len = n; last = 0 })
-    unfolding let_bound bound
-    let-no h = record {
-      size = refl;
-      on = omega (arith, X.on, Y.on, Z.on, R.on);
-      inside = R.inside;
-      does = λ i s g. record {
-        goes = λ y. absurd (true≢false (sym y));
-        stops = λ y. ap (λ x. guard sheet_length limit x.0) (let-reads i s) ∙ ap (λ x. guard sheet_length limit (let_bound s (underscored (part t a b)) x)) (R.stops (holds-sheet g) h) ∙ within-limit (bound s (refused v.number)) refl g;
-      };
-      mark = λ y. absurd (true≢false (sym y));
-    }
+  -- Its value is refused.
+  pub let-no : {q : ℕ} → Value-of.0 ≡ refused q → {r : RecordBuffer} → SameBuffer b.records.now r → guard sheet_length r.limit (let_step limit i s t).0 ≡ fail q
+  unfolding let_bound
+  let-no h w = guard-refused b (ap (λ x. x.0) let-reads ∙ ap (let_bound s name) h) w
 
-    module _ (h : v.ok ≡ true) where
-      taken : {s : Records} (g : Holds s l n limit) → Taken (value limit (resolve s) (dictionary_value limit (resolve s) 6) (drop e t)) t w₂ v
-      taken g = R.goes (holds-sheet g) h
+  -- Its value is read.
+  module _ {w : List ℕ} {v : ValueRead} (R : IsRead limit Value-of u w v) where
+    let-is : let_step limit i s t ≡ (bound s (accepted (set s name R.v)), drop (e + v.used) t)
+    unfolding let_bound
+    let-is = let-reads ∙ λ y. (let_bound s name (R.is y), (R.rest ∙ ap (drop v.used) tail ∙ drop-drop v.used e t) y)
 
-      -- What is bound.
-      let-is : (i : Records → List ℕ → Names → Answer Records) {s : Records} (g : Holds s l n limit) → let_step limit i s (drop at t) ≡ (bound s (accepted (set s (underscored (part t a b)) (taken g).v)), drop v.at t)
-      unfolding let_bound
-      let-is i {s} g = let-reads i s ∙ λ y. (let_bound s (underscored (part t a b)) ((taken g).is y), (taken g).rest y)
+    good-set : all ascii t ≡ true → good_records (set s name R.v) word 6 ≡ true
+    unfolding bound
+    good-set c = ap (λ x. good_records x.0.state word 6) (sym let-is) ∙ good-let limit i s t c (records-good (bytes_in b.records.now))
 
-      module _ {last : ℕ} {m : List ℕ} {o : RustOption Put} (B : (x : Value) → IsSource x v.bit v.count (take v.len w₂) → BindsAt l n last limit (underscored_if true (part t a b)) x m o) where
-        binds : {s : Records} (g : Holds s l n limit) → BindsAt l n last limit (underscored (part t a b)) (taken g).v m o
-        unfolding underscored_if
-        binds g = B (taken g).v (taken g).source
+    module _ {last : ℕ} (p : Between s last) {r : RecordBuffer} {o : Result ℕ Refusal} (B : (x : Value) → IsSource x v.lead.bit v.lead.count (take v.len w) → BindsAt b.records.now last (underscored (part t a m)) x r o) where
+      binds : BindsAt b.records.now last name R.v r o
+      binds = B R.v R.source
 
-        module _ (k : Keeps l n limit) where
-          pub let-size : length m ≡ length l
-          let-size = (binds (keeps-holds k)).long
+      leaves : Leaves b.records.now (encode (set s name R.v)) r o
+      leaves = binds.leaves s (marked-in b p)
 
-          module _ (p : Mark (take n l) last) where
-            marked : {s : Records} → Holds s l n limit → Marked (take n l) s last
-            marked g = mark_of p g.bytes g.good
+      pub let-over : SameBuffer b.records.now r
+      let-over = binds.over
 
-            pub let-over : o ≡ None → DefinesLet limit t at l n m (record { ok = false; number = 9; at = v.at; len = n; last = 0 })
-            unfolding bound
-            let-over y = record {
-              size = let-size;
-              on = omega (arith, X.on, Y.on, Z.on, R.on);
-              inside = R.inside;
-              does = λ i s g. record {
-                goes = λ z. absurd (true≢false (sym z));
-                stops = λ z. ap (λ x. guard sheet_length limit x.0) (let-is i g) ∙ guard-no sheet_length limit _ (lt-leb _ limit (leaves-over m limit (set s (underscored (part t a b)) (taken g).v) (rw y at ((binds g).leaves s (marked g)))));
-              };
-              mark = λ z. absurd (true≢false (sym z));
-            }
+      short : length (bytes_in r) ≤ 65535
+      short = omega (arith, length-take-le r.len r.bytes.now (omega (arith, r.fits, r.room)), r.fits, r.small)
 
-            module _ (u : all ascii t ≡ true) {q : Put} (y : o ≡ Some q) where
-              let-comes : (i : Records → List ℕ → Names → Answer Records) {s : Records} (g : Holds s l n limit) → Holds (let_step limit i s (drop at t)).0.state m q.len limit
-              unfolding bound
-              let-comes i {s} g =
-                  let x = leaves-bytes m limit (set s (underscored (part t a b)) (taken g).v) q.len (rw y at ((binds g).leaves s (marked g))) in
-                  let j = let-is i g in
-                  record {
-                    bytes = x.1 ∙ ap (λ z. encode z.0.state) (sym j);
-                    long = x.2 ∙ ap (λ z. sheet_length z.0.state) (sym j);
-                    fits = x.0;
-                    good = good-let limit i s (drop at t) (all_right ascii (take at t) (drop at t) (ap (all ascii) (take-append-drop at t) ∙ u)) g.good;
-                  }
+      -- What is left is a sheet.
+      pub let-sheet : all ascii t ≡ true → KeepsLayout (bytes_in r)
+      unfolding Leaves
+      let-sheet c = at o leaves
+        where
+          at : (o : Result ℕ Refusal) → Leaves b.records.now (encode (set s name R.v)) r o → KeepsLayout (bytes_in r)
+          at (Ok x) h = good-keeps (set s name R.v) h (good-set c) short
+          at (Err x) h = rw h.2 b.sheet
 
-              let-mark : Mark (take q.len m) q.at
-              unfolding bound
-              let-mark =
-                  let g = keeps-holds k in
-                  record {
-                    sheet = holds-sheet (let-comes same g);
-                    between = subst (λ z. Between z.0.state q.at) (sym (let-is same g)) ((binds g).between k.sheet.r (marked g) q y);
-                  }
+      pub let-full : {k : Refusal} → o ≡ Err k → guard sheet_length r.limit (let_step limit i s t).0 ≡ fail (number k)
+      unfolding Leaves bound sheet_length
+      let-full y =
+          let h = rw y at leaves in
+          let l : r.limit ≡ limit = binds.over.limit in
+          rw h.0 (ap (λ x. guard sheet_length r.limit x.0) let-is ∙ guard-no sheet_length r.limit _ (lt-leb _ r.limit (omega (arith, h.1))))
 
-              pub let-bound : DefinesLet limit t at l n m (record { ok = true; number = 0; at = v.at; len = q.len; last = q.at })
-              unfolding bound
-              let-bound = record {
-                size = let-size;
-                on = omega (arith, X.on, Y.on, Z.on, R.on);
-                inside = R.inside;
-                does = λ i s g.
-                    let j = let-is i g in
-                    record {
-                      goes = λ z. record { emits = ap (λ x. x.0.emit) j; rest = ap (λ x. x.1) j; holds = let-comes i g };
-                      stops = λ z. absurd (true≢false z);
-                    };
-                mark = λ z. let-mark;
-              }
+      pub let-bound : all ascii t ≡ true → {at : ℕ} → o ≡ Ok at → {c : SheetBuffer} → c.records.now ≡ r → IsStep (let_step limit i s t) t c (record { used = e + v.used; last = at })
+      unfolding Leaves bound
+      let-bound d {at} y {c} z =
+          let h : bytes_in r ≡ encode (set s name R.v) = rw y at leaves in
+          let g : sheet_in c ≡ set s name R.v = ap (λ x. records_of (bytes_in x)) z ∙ good-records_of (set s name R.v) h (good-set d) short in
+          record {
+            inside = omega (arith, R.inside, ap length tail, length-drop e t, Z.inside);
+            emits = ap (λ x. x.0.emit) let-is;
+            rest = ap (λ x. x.1) let-is;
+            state = ap (λ x. x.0.state) let-is ∙ sym g;
+            mark = rw g (binds.between s (marked-in b p) at y);
+          }

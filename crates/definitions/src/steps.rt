@@ -1,81 +1,62 @@
 // The step `#let` of a file of definitions, from behind its mark.
-ghost use Rattle.std.specs.Prelude.{◌≡◌, true, ◌≤◌, length, take};
+ghost use Rattle.std.specs.Prelude.{◌≡◌, ◌+◌, ◌<◌, ◌^◌, true, List, ℕ, length};
 ghost use Rattle.rules.specs.Reader.{all};
+ghost use Rattle.rules.specs.Answer.{Answer};
 ghost use Rattle.rules.specs.Bytes.{ascii};
-ghost use Rattle.places.specs.Mark.{Mark};
+ghost use Rattle.rules.specs.Sheet.{Records};
+ghost use Rattle.rules.specs.Definitions.{Names, let_step};
+ghost use Rattle.places.specs.Place.{Between};
 ghost use Rattle.values.specs.Values.{Room};
-ghost use Rattle.binding.specs.Use.{Keeps};
-ghost use Rattle.definitions.specs.Steps.{DefinesLet};
+ghost use Rattle.binding.specs.Sheets.{SameSheet, sheet_in};
+ghost use Rattle.definitions.specs.Steps.{Steps};
 
-use record_bytes::Lead;
+use binding::sheet_buffer::SheetBuffer;
+use refusal::Refusal;
 use scan::Set;
+use sheet::Name;
 
-// What a step came to: is nothing refused; if something is, the refusal's number; where reading goes on, the sheet's length, and where
-// its last record was put, for the next step to search from; 0 if something is refused.
+// What a step came to: how many bytes of the text it read, and where its last record was put, for the next step to search from.
 #[derive(Clone, Copy)]
 pub struct Stepped {
-    pub ok: bool,
-    pub number: u8,
-    pub at: usize,
-    pub len: usize,
+    pub used: usize,
     pub last: usize,
 }
 
-// Binds the name of a `#let`, each `-` made `_`, to the value behind it.
+impl Stepped {
+    // The same step, behind a mark of so many bytes.
+    pub fn behind(self, mark: usize) -> Stepped
+        requires { mark + self.used < 2 ^ 64 }
+        ensures { result ≡ record { used = mark + self.used; last = self.last } }
+    {
+        Stepped {
+            used: mark + self.used,
+            last: self.last,
+        }
+    }
+}
+
+// Binds the name of a `#let`, each `-` made `_`, to the value behind it. At `last` a record of the sheet begins.
 pub fn let_step(
     text: &[u8],
-    at: usize,
-    left: &mut [u8],
-    n: usize,
+    left: &mut SheetBuffer<'_, '_>,
     last: usize,
-    limit: usize,
     work: &mut [u8],
-) -> Stepped
-    requires { (at ≤ length text.now) × (all ascii text.now ≡ true) × Keeps left.old n limit × Room work.old limit 6 × Mark (take n left.old) last }
-    ensures { (length work.new ≡ length work.old) × DefinesLet limit text.now at left.old n left.new result }
+) -> Result<Stepped, Refusal>
+    requires { (all ascii text.now ≡ true) × Room work.old left.old.records.now.limit 6 × Between (sheet_in left.old) last }
+    ensures work { length work.new ≡ length work.old }
+    ensures over { SameSheet left.old left.new }
+    ensures steps { (i : Records → List ℕ → Names → Answer Records) → Steps (let_step left.old.records.now.limit i (sheet_in left.old) text.now) text.now left.new result }
 {
-    let from = scan::span(text, at, Set::Blank);
+    let from = scan::span(text, 0, Set::Blank);
     let to = scan::span(text, from, Set::Name);
-    let i = scan::span(text, to, Set::EqualsOrBlank);
-    let v = values::value(text, i, &left[..n], work, limit, 6);
-    if !v.ok {
-        return Stepped {
-            ok: false,
-            number: v.number,
-            at: v.at,
-            len: n,
-            last: 0,
-        };
-    }
-    let len = v.len;
-    let lead = Lead {
-        bit: v.bit,
-        count: v.count,
-    };
-    let o = binding::bind_value_at(
-        left,
-        n,
+    let at = scan::span(text, to, Set::EqualsOrBlank);
+    let limit = left.records.limit;
+    let v = values::value(&text[at..], &left.sheet(), work, limit, 6)?;
+    let own = &work[..v.len];
+    let name = Name::Reference(&text[from..to]);
+    let last = left.records.bind_value_at(last, name, v.lead, own)?;
+    Ok(Stepped {
+        used: at + v.used,
         last,
-        limit,
-        &text[from..to],
-        true,
-        lead,
-        &work[..len],
-    );
-    match o {
-        None => Stepped {
-            ok: false,
-            number: 9,
-            at: v.at,
-            len: n,
-            last: 0,
-        },
-        Some(put) => Stepped {
-            ok: true,
-            number: 0,
-            at: v.at,
-            len: put.len,
-            last: put.at,
-        },
-    }
+    })
 }

@@ -1,15 +1,16 @@
 -- The run: plain text in spans between the `#` marks, and the step at each.
-use Rattle.std.specs.Prelude.{◌≡◌, Bool, true, ◌&&◌, ℕ, suc, ◌-◌, ◌≤◌, ◌<◌, eqb, length, get_or}
+use Rattle.std.specs.Prelude.{◌≡◌, Bool, true, ◌&&◌, ℕ, suc, ◌+◌, ◌-◌, ◌≤◌, ◌<◌, eqb, length, get_or, Result, Ok, Err, IfOk}
 use Rattle.std.proofs.Math.Path.{refl, ap}
-use Rattle.std.proofs.Common.{sym, subst, ◌∙◌, true≢false, drop-cons}
+use Rattle.std.proofs.Common.{sym, ◌∙◌, true≢false, drop-cons, drop-drop, length-drop}
 use mathlib.Core.List.{List, [], ◌∷◌}
 use Rattle.std.proofs.Math.Bool.{false, not, and-true}
 use native.Mathlib.Omega.{arith}
 use Rattle.std.proofs.Math.ListN.{drop, drop_of_length-le}
-use borrow.Author.Tests.{le-leb, lt-leb, ne_eqb, eq-eqb, eqb-true}
-use Rattle.rules.specs.Answer.{refused}
+use borrow.Author.Tests.{le-leb, ne_eqb, eq-eqb, eqb-true}
+use Rattle.refusal.specs.declared.Refusal.{Refusal}
+use Rattle.refusal.specs.Numbers.{number}
 use Rattle.rules.specs.Reader.{bytes, prefix, mark, if_r, ◌>>=◌}
-use Rattle.rules.specs.Run.{Emit, ok, put, and_then, unrefused, Did, Trace, run, all_whole, final, write}
+use Rattle.rules.specs.Run.{Emit, ok, put, and_then, unrefused, Did, Trace, step, run, all_whole, final, write}
 use Rattle.rules.specs.Files.{View}
 use Rattle.rules.specs.Sheet.{Records, sheet_length}
 use Rattle.rules.specs.Expansion.{writes, copy_step, expansion_step, expansion}
@@ -17,29 +18,23 @@ use Rattle.rules.proofs.Laws.Bool.{and-three}
 use Rattle.rules.proofs.Laws.Limit.{written-unrefused}
 use Rattle.rules.proofs.Laws.Enough.{run_at, run-first}
 use Rattle.scan.specs.Sets.{part, Spans, Starts, not_byte}
-use Rattle.scan.specs.Laws.{mark_of}
+use Rattle.scan.specs.Laws.{mark_of, tail-part}
 use Rattle.scan.specs.Stretches.{spans-each, spans-stop}
-use Rattle.buffers.specs.Put.{Put}
-use Rattle.buffers.specs.Laws.{put-length}
-use Rattle.buffers.specs.Emits.{Emits, guard, guarded, Going, going_start, going-same, going_on, going-no, going_end, emits-put}
+use Rattle.buffers.specs.declared.writer.Writer.{Writer}
+use Rattle.buffers.specs.Emits.{guard, guarded}
+use Rattle.buffers.specs.Wrote.{Wrote, Writing, writing-start, writing-same, writing-on, writing-no, writing-end}
 use Rattle.buffers.specs.Copies.{after_all, copied, Copied, copied-part, after_all-same}
-use Rattle.expansion_steps.specs.declared.step.Stepped.{Stepped}
-use Rattle.expansion.specs.declared.Expanded.{Expanded}
-use Rattle.binding.specs.Use.{within-limit, Holds, holds-sheet, Keeps, keeps-holds}
-use Rattle.expansion_steps.specs.Step.{Took, Steps}
+use Rattle.expansion_steps.specs.declared.output.Step.{Step}
+use Rattle.expansion_steps.specs.Call.{Goes}
+use Rattle.expansion_steps.specs.Step.{Steps, within-limit, sheet-within}
+use Rattle.binding.specs.declared.sheet_buffer.SheetBuffer.{SheetBuffer}
+use Rattle.binding.specs.Sheets.{sheet_in, SameSheet, sheet-refl, sheet-then}
 
--- What expanding t, from the records s on, came to: what is written, or 9; and, if all is written, whether each step is whole, and the
--- records that m holds.
-pub record Runs (limit full room : ℕ) (v : View) (s : Records) (t b : List ℕ) (p : ℕ) (c m : List ℕ) (r : Expanded) : Type 0 where
-  pub emits : Emits full room (guarded sheet_length limit (expansion v s t)) b p c r.ok r.number r.next
-  pub wholes : r.ok ≡ true → all_whole (expansion v s t) ≡ r.whole
-  pub holds : r.ok ≡ true → Holds (final (expansion v s t)) m r.len limit
-
--- The text t is expanded, for the records in the first n bytes of l: into b, from p on; c and m are left.
-pub record Expands (limit full room : ℕ) (v : View) (t b : List ℕ) (p : ℕ) (c l : List ℕ) (n : ℕ) (m : List ℕ) (r : Expanded) : Type 0 where
-  pub size : length c ≡ length b
-  pub left-size : length m ≡ length l
-  pub does : (s : Records) → Holds s l n limit → Runs limit full room v s t b p c m r
+-- The text t is expanded, for the sheet in b: what is written, or 9; and, if all is written, whether each step is whole, and that c holds the sheet.
+pub record Expands (v : View) (t : List ℕ) (w w₂ : Writer) (b c : SheetBuffer) (r : Result Bool Refusal) : Type 0 where
+  pub over : SameSheet b c
+  pub wrote : Wrote (guarded sheet_length b.records.now.limit (expansion v (sheet_in b) t)) w w₂ r
+  pub goes : IfOk r (λ x. (all_whole (expansion v (sheet_in b) t) ≡ x) × (sheet_in c ≡ final (expansion v (sheet_in b) t)))
 
 -- PLAIN TEXT. Another byte than `#` is copied.
 module _ (v : View) where
@@ -55,8 +50,8 @@ module _ (v : View) where
       none m = mark_of (35 ∷ m) (x ∷ xs) false (other x xs m h)
 
   -- Text without `#`, from i to j, is one piece, and the records stay.
-  plain : {s : Records} {l : List ℕ} {n limit : ℕ} → Holds s l n limit → (t : List ℕ) (i j : ℕ) → Spans (not_byte 35) t i j → Copied (λ s x. s) (expansion_step v) sheet_length limit s t i j
-  plain {s} {l} {n} {limit} h t i j x = copied-part (λ s x. s) (expansion_step v) sheet_length limit (λ s x z. z) s t i j x.on x.inside (le-leb _ limit (omega (arith, h.long, h.fits))) each
+  plain : (b : SheetBuffer) {limit : ℕ} → b.records.now.limit ≡ limit → (t : List ℕ) (i j : ℕ) → Spans (not_byte 35) t i j → Copied (λ s x. s) (expansion_step v) sheet_length limit (sheet_in b) t i j
+  plain b {limit} l t i j x = copied-part (λ s x. s) (expansion_step v) sheet_length limit (λ s x z. z) (sheet_in b) t i j x.on x.inside (le-leb _ limit (omega (arith, sheet-within b))) each
     where
       each : (k : ℕ) (s : Records) → i ≤ k → k < j → expansion_step v s (drop k t) ≡ (copied (λ s x. s) s (get_or t k 0), drop (suc k) t)
       each k s a b = ap (expansion_step v s) (drop-cons t k 0 (omega (arith, x.inside))) ∙ copy_byte_lem s (get_or t k 0) (drop (suc k) t) (spans-each x k a b)
@@ -69,156 +64,120 @@ is_byte x c h = at (eqb x c) refl h
     at true e z = eqb-true x c e
     at false e z = absurd (true≢false z)
 
--- THE LOOP. s₀: the records given; t: the text, expanded up to i.
-module _ (limit full room : ℕ) (v : View) (t b : List ℕ) (p : ℕ) where
+-- THE LOOP. t: the text, expanded up to i. a, w: the sheet's buffer and the writer before.
+module _ (v : View) (t : List ℕ) (a : SheetBuffer) (w : Writer) where
   abbrev Left : Records → ℕ → Trace Records
   Left s i = run (expansion_step v) s 0 (drop i t)
 
   abbrev Emitted : Trace Records → Emit
-  Emitted = guarded sheet_length limit
+  Emitted = guarded sheet_length a.records.now.limit
 
-  -- Of the run from s₀ on the text up to i is expanded, the writer is at q, and m holds the records.
-  pub record Halfway (s₀ : Records) (c m : List ℕ) (i q len : ℕ) (w : Bool) : Type 0 where
-    pub s : Records
-    pub going : Going full room (Emitted (expansion v s₀ t)) b p c q (Emitted (Left s i))
-    pub wholes : all_whole (expansion v s₀ t) ≡ (w && all_whole (Left s i))
-    pub finals : final (expansion v s₀ t) ≡ final (Left s i)
-    pub holds : Holds s m len limit
+  abbrev Whole : Trace Records
+  Whole = expansion v (sheet_in a) t
 
-  pub record Expanding (l : List ℕ) (n : ℕ) (c m : List ℕ) (i q len : ℕ) (w : Bool) : Type 0 where
-    pub given : Keeps l n limit
+  -- Of the run on the text up to i is written, and b holds the sheet.
+  pub record Expanding (b : SheetBuffer) (w₁ : Writer) (i : ℕ) (x : Bool) : Type 0 where
     pub inside : i ≤ length t
-    pub size : length c ≡ length b
-    pub left-size : length m ≡ length l
-    pub place : q ≤ room
-    pub keeps : Keeps m len limit
-    pub halfway : (s : Records) → Holds s l n limit → Halfway s c m i q len w
+    pub over : SameSheet a b
+    pub writing : Writing (Emitted Whole) w w₁ (Emitted (Left (sheet_in b) i))
+    pub wholes : all_whole Whole ≡ (x && all_whole (Left (sheet_in b) i))
+    pub finals : final Whole ≡ final (Left (sheet_in b) i)
 
-  pub expanding-start : {l : List ℕ} {n : ℕ} → p ≤ room → Keeps l n limit → Expanding l n b l 0 p n true
+  pub expanding-start : Expanding a w 0 true
   unfolding expansion
-  expanding-start h k = record {
-    given = k;
-    inside = omega arith;
-    size = refl;
-    left-size = refl;
-    place = h;
-    keeps = k;
-    halfway = λ s z. record { s = s; going = going_start full room (Emitted (expansion v s t)) b p h; wholes = refl; finals = refl; holds = z };
-  }
+  expanding-start = record { inside = omega arith; over = sheet-refl a; writing = writing-start (Emitted Whole) w; wholes = refl; finals = refl }
 
-  module _ {l : List ℕ} {n : ℕ} {c m : List ℕ} {i q len : ℕ} {w : Bool} (E : Expanding l n c m i q len w) {j : ℕ} (X : Spans (not_byte 35) t i j) {d : List ℕ} {r : ℕ} (P : Put room c q (part t i j) d r) where
+  module _ {b : SheetBuffer} {w₁ : Writer} {i : ℕ} {x : Bool} (E : Expanding b w₁ i x) {j : ℕ} (X : Spans (not_byte 35) t i j) {w₂ : Writer} {p : Result (Unit {0}) Refusal} (P : Wrote (put (part t i j) ok) w₁ w₂ p) where
     -- The text before the `#` is one piece.
-    module _ {s₀ : Records} (h : Holds s₀ l n limit) where
-      abbrev half : Halfway s₀ c m i q len w
-      half = E.halfway s₀ h
+    piece : Copied (λ s x. s) (expansion_step v) sheet_length a.records.now.limit (sheet_in b) t i j
+    piece = plain v b E.over.over.limit t i j X
 
-      abbrev piece : Copied (λ s x. s) (expansion_step v) sheet_length limit half.s t i j
-      piece = plain v half.holds t i j X
+    behind : (A : Type 0) (f : Trace Records → A) → f (run (expansion_step v) (after_all (λ s x. s) (sheet_in b) (part t i j)) 0 (drop j t)) ≡ f (Left (sheet_in b) j)
+    behind A f = ap (λ z. f (run (expansion_step v) z 0 (drop j t))) (after_all-same (λ s x. s) (λ s x. refl) (sheet_in b) (part t i j))
 
-      behind : (A : Type 0) (f : Trace Records → A) → f (run (expansion_step v) (after_all (λ s x. s) half.s (part t i j)) 0 (drop j t)) ≡ f (Left half.s j)
-      behind A f = ap (λ z. f (run (expansion_step v) z 0 (drop j t))) (after_all-same (λ s x. s) (λ s x. refl) half.s (part t i j))
+    before-hash : Writing (Emitted Whole) w w₁ (and_then (put (part t i j) ok) (Emitted (Left (sheet_in b) j)))
+    unfolding and_then
+    before-hash = writing-same (λ full r. piece.writes full r ∙ behind _ (λ z. write full r (put (part t i j) (Emitted z)))) E.writing
 
-      before-hash : Going full room (Emitted (expansion v s₀ t)) b p c q (and_then (put (part t i j) ok) (Emitted (Left half.s j)))
-      unfolding and_then
-      before-hash = going-same (piece.writes full (room - q) ∙ behind _ (λ z. write full (room - q) (put (part t i j) (Emitted z)))) half.going
+    pub expanding-full : {k : Refusal} → p ≡ Err k → {r : Result Bool Refusal} → r ≡ Err k → Expands v t w w₂ a b r
+    expanding-full y z = record { over = E.over; wrote = writing-no (put (part t i j) ok) (Emitted (Left (sheet_in b) j)) before-hash y P z; goes = rw z tt }
 
-    refuse : {k x y : ℕ} {z : Bool} {e m₂ : List ℕ} → length e ≡ length b → length m₂ ≡ length l → ((s : Records) → Holds s l n limit → write full (room - p) (Emitted (expansion v s t)) ≡ refused k) →
-        Expands limit full room v t b p e l n m₂ (record { ok = false; number = k; next = x; len = y; whole = z })
-    refuse u u₂ f = record {
-      size = u;
-      left-size = u₂;
-      does = λ s h. record {
-        emits = record { size = u; goes = λ e. absurd (true≢false (sym e)); stops = λ e. f s h };
-        wholes = λ e. absurd (true≢false (sym e));
-        holds = λ e. absurd (true≢false (sym e));
-      };
-    }
+    module _ {u : Unit {0}} (z : p ≡ Ok u) where
+      at-hash : Writing (Emitted Whole) w w₂ (Emitted (Left (sheet_in b) j))
+      at-hash = writing-on (put (part t i j) ok) (Emitted (Left (sheet_in b) j)) before-hash z P
 
-    pub expanding-full : {x y : ℕ} {z : Bool} → room < r → Expands limit full room v t b p d l n m (record { ok = false; number = full; next = x; len = y; whole = z })
-    expanding-full z = refuse (put-length P ∙ E.size) E.left-size (λ s h. going-no (put (part t i j) ok) (Emitted (Left (half h).s j)) (before-hash h) (emits-put {full = full} E.place P) (lt-leb r room z))
+      whole-hash : all_whole Whole ≡ (x && all_whole (Left (sheet_in b) j))
+      whole-hash = E.wholes ∙ ap (λ y. x && y) (piece.wholes ∙ behind _ all_whole)
 
-    module _ (z : r ≤ room) where
-      at-hash : {s₀ : Records} (h : Holds s₀ l n limit) → Going full room (Emitted (expansion v s₀ t)) b p d r (Emitted (Left (half h).s j))
-      at-hash h = going_on (put (part t i j) ok) (Emitted (Left (half h).s j)) (before-hash h) (emits-put {full = full} E.place P) (le-leb r room z)
+      final-hash : final Whole ≡ final (Left (sheet_in b) j)
+      final-hash = E.finals ∙ piece.finals ∙ behind _ final
 
-      whole-hash : {s₀ : Records} (h : Holds s₀ l n limit) → all_whole (expansion v s₀ t) ≡ (w && all_whole (Left (half h).s j))
-      whole-hash h = (half h).wholes ∙ ap (λ x. w && x) ((piece h).wholes ∙ behind h _ all_whole)
-
-      final-hash : {s₀ : Records} (h : Holds s₀ l n limit) → final (expansion v s₀ t) ≡ final (Left (half h).s j)
-      final-hash h = (half h).finals ∙ (piece h).finals ∙ behind h _ final
-
-      pub expanding-end : {x : ℕ} → length t ≤ j → Expands limit full room v t b p d l n m (record { ok = true; number = x; next = r; len = len; whole = w })
+      pub expanding-end : length t ≤ j → Expands v t w w₂ a b (Ok x)
       unfolding run guarded all_whole final
-      expanding-end {x} e = record { size = put-length P ∙ E.size; left-size = E.left-size; does = λ s h. does h }
+      expanding-end e = record {
+        over = E.over;
+        wrote = writing-end (writing-same (λ full r. ap (λ y. write full r (Emitted (run (expansion_step v) (sheet_in b) 0 y))) none) at-hash);
+        goes = (
+          whole-hash ∙ ap (λ y. x && all_whole (run (expansion_step v) (sheet_in b) 0 y)) none ∙ and-true x,
+          sym (final-hash ∙ ap (λ y. final (run (expansion_step v) (sheet_in b) 0 y)) none),
+        );
+      }
         where
           none : drop j t ≡ []
           none = drop_of_length-le t {i = j} e
 
-          does : {s₀ : Records} → Holds s₀ l n limit → Runs limit full room v s₀ t b p d m (record { ok = true; number = x; next = r; len = len; whole = w })
-          does h = record {
-            emits = record {
-              size = put-length P ∙ E.size;
-              goes = λ y. going_end (going-same (ap (λ y. write full (room - r) (Emitted (run (expansion_step v) (half h).s 0 y))) none) (at-hash h));
-              stops = λ y. absurd (true≢false y);
-            };
-            wholes = λ y. whole-hash h ∙ ap (λ y. w && all_whole (run (expansion_step v) (half h).s 0 y)) none ∙ and-true w;
-            holds = λ y. subst (λ y. Holds y m len limit) (sym (final-hash h ∙ ap (λ y. final (run (expansion_step v) (half h).s 0 y)) none)) (half h).holds;
-          }
-
-      -- The `#` at j.
+      -- The `#` at j, and the step there.
       module _ (y : j < length t) where
-        pub hash : Starts (bytes "#") t j true
+        pub hash : Starts (bytes "#") (part t j (length t)) 0 true
         unfolding prefix
-        hash = record { says = rw (drop-cons t j 0 y, eq-eqb 35 (get_or t j 0) (sym (is_byte (get_or t j 0) 35 (spans-stop X y)))) refl; there = λ e. omega arith }
+        hash = rw (tail-part t j) (record { says = rw (drop-cons t j 0 y, eq-eqb 35 (get_or t j 0) (sym (is_byte (get_or t j 0) 35 (spans-stop X y)))) refl; there = λ e. omega (arith, length-drop j t) })
 
-        module _ {c₂ m₂ : List ℕ} {k : Stepped} (S : Steps limit full room v t j d r c₂ m len m₂ k) where
-          module _ {s₀ : Records} (h : Holds s₀ l n limit) where
-            abbrev did : Did Records
-            did = (expansion_step v (half h).s (drop j t)).0
+        module _ {w₃ : Writer} {c : SheetBuffer} {k : Result Step Refusal} (S : Steps v (part t j (length t)) w₂ w₃ b c k) where
+          T : Steps v (drop j t) w₂ w₃ b c k
+          T = rw (tail-part t j) at S
 
-            took : Took limit full room (expansion_step v (half h).s (drop j t)) t d r c₂ m₂ k
-            took = S.does (half h).s (half h).holds
+          abbrev did : Did Records
+          did = (expansion_step v (sheet_in b) (drop j t)).0
 
-            emits : Emits full room (guard sheet_length limit did) d r c₂ k.ok k.number k.next
-            emits = took.emits
+          wrote-step : Wrote (guard sheet_length a.records.now.limit did) w₂ w₃ k
+          wrote-step = rw E.over.over.limit at T.wrote
 
-          pub expanding-refused : {x o : ℕ} {a : Bool} → k.ok ≡ false → Expands limit full room v t b p c₂ l n m₂ (record { ok = false; number = k.number; next = x; len = o; whole = a })
+          over-both : SameSheet a c
+          over-both = sheet-then E.over T.over
+
+          pub expanding-refused : {e : Refusal} → k ≡ Err e → {r : Result Bool Refusal} → r ≡ Err e → Expands v t w w₃ a c r
           unfolding guarded
-          expanding-refused e = refuse (S.size ∙ put-length P ∙ E.size) (S.left-size ∙ E.left-size)
-              (λ s h.
-              let u = run-first (expansion_step v) (half h).s t j y in
-              going-no (guard sheet_length limit (did h)) (Emitted u.0) (going-same (ap (λ x. write full (room - r) (Emitted x)) u.1) (at-hash h)) (emits h) e)
+          expanding-refused h q =
+              let f = run-first (expansion_step v) (sheet_in b) t j y in
+              record { over = over-both; wrote = writing-no (guard sheet_length a.records.now.limit did) (Emitted f.0) (writing-same (λ full r. ap (λ o. write full r (Emitted o)) f.1) at-hash) h wrote-step q; goes = rw q tt }
 
-          pub expanding-on : k.ok ≡ true → Expanding l n c₂ m₂ k.at k.next k.len (w && k.whole)
-          unfolding guarded all_whole final
-          expanding-on e = record {
-            given = E.given;
-            inside = S.inside;
-            size = S.size ∙ put-length P ∙ E.size;
-            left-size = S.left-size ∙ E.left-size;
-            place = ((emits known).goes e).fits;
-            keeps = keeping ((took known).holds e);
-            halfway = λ s h. on h;
-          }
-            where
-              known : Holds E.given.sheet.r l n limit
-              known = keeps-holds E.given
+          module _ {d : Step} (e : k ≡ Ok d) where
+            stepped : Goes 1 (expansion_step v (sheet_in b) (drop j t)) (drop j t) d.used d.whole × (sheet_in c ≡ did.state)
+            stepped = rw e at T.goes
 
-              keeping : {s : Records} → Holds s m₂ k.len limit → Keeps m₂ k.len limit
-              keeping h = record { fits = h.fits; room = omega (arith, E.keeps.room, S.left-size); most = E.keeps.most; sheet = holds-sheet h }
+            on : j < j + d.used
+            on = let o = stepped.0.on in omega arith
 
-              more : (a u o : Bool) → a ≡ k.whole → u ≡ true → (w && (a && u && o)) ≡ ((w && k.whole) && o)
-              more a true o x z = ap (λ x. w && (x && true && o)) x ∙ and-three w k.whole o
-              more a false o x z = absurd (true≢false (sym z))
+            pub expanding-inside : j + d.used ≤ length t
+            expanding-inside = let o = stepped.0.inside in omega (arith, length-drop j t)
 
-              on : {s₀ : Records} → Holds s₀ l n limit → Halfway s₀ c₂ m₂ k.at k.next k.len (w && k.whole)
-              on h =
-                  let g = did h in
-                  let o = run_at (expansion_step v) t (half h).s j k.at S.on S.inside ((took h).rest e) in
-                  record {
-                    s = g.state;
-                    going = going_on (guard sheet_length limit g) (Emitted (Left g.state k.at)) (going-same (ap (λ x. write full (room - r) (Emitted x)) o) (at-hash h)) (emits h) e;
-                    wholes = whole-hash h ∙ ap (λ x. w && all_whole x) o ∙ more g.whole (unrefused g.emit) (all_whole (Left g.state k.at)) ((took h).wholes e) (written-unrefused full g.emit (room - r) (ap (write full (room - r)) (sym (within-limit g refl ((took h).holds e))) ∙ ((emits h).goes e).says));
-                    finals = final-hash h ∙ ap final o;
-                    holds = (took h).holds e;
-                  }
+            pub expanding-smaller : length t - (j + d.used) < length t - i
+            expanding-smaller = omega (arith, on, X.on)
+
+            more : (a b o : Bool) → a ≡ d.whole → b ≡ true → (x && (a && b && o)) ≡ ((x && d.whole) && o)
+            more a true o f z = ap (λ f. x && (f && true && o)) f ∙ and-three x d.whole o
+            more a false o f z = absurd (true≢false (sym z))
+
+            one-step : Left (sheet_in b) j ≡ step did (Left (sheet_in c) (j + d.used))
+            one-step = run_at (expansion_step v) t (sheet_in b) j (j + d.used) on expanding-inside (stepped.0.rest ∙ drop-drop d.used j t) ∙ ap (λ s. step did (Left s (j + d.used))) (sym stepped.1)
+
+            pub expanding-on : Expanding c w₃ (j + d.used) (x && d.whole)
+            unfolding guarded all_whole final
+            expanding-on = record {
+              inside = expanding-inside;
+              over = over-both;
+              writing = writing-on (guard sheet_length a.records.now.limit did) (Emitted (Left (sheet_in c) (j + d.used))) (writing-same (λ full r. ap (λ f. write full r (Emitted f)) one-step) at-hash) e wrote-step;
+              wholes = whole-hash ∙ ap (λ f. x && all_whole f) one-step
+                  ∙ more did.whole (unrefused did.emit) (all_whole (Left (sheet_in c) (j + d.used))) stepped.0.whole (written-unrefused (number w₂.full) did.emit (length w₂.out.now - w₂.at) (rw (within-limit did c over-both.over.limit stepped.1) at ((rw e at wrote-step.emits).goes refl).says));
+              finals = final-hash ∙ ap final one-step;
+            }

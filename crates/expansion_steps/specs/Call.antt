@@ -1,155 +1,121 @@
--- The steps `#raw` and `#link`.
-use Rattle.std.specs.Prelude.{◌≡◌, Bool, true, false, ℕ, ◌+◌, ◌-◌, ◌^◌, ◌≤◌, ◌<◌, ltb, take}
-use Rattle.std.proofs.Math.Path.{refl, sym, ap, subst}
-use Rattle.std.proofs.Common.{◌∙◌, true≢false, arith, drop-drop}
+-- What a step comes to; the steps `#raw` and `#link`.
+use Rattle.std.specs.Prelude.{Option, Some, None, ◌≡◌, Bool, true, false, not, ℕ, ◌+◌, ◌-◌, ◌≤◌, ◌<◌, ltb, length, take, drop, Result, Ok, Err, IfOk}
+use Rattle.std.proofs.Math.Path.{refl, sym, ap}
+use Rattle.std.proofs.Common.{◌∙◌, arith, drop-drop, length-drop}
+use Rattle.std.proofs.lemmas.Result.{IfOk-weaker}
 use mathlib.Core.List.{List, ◌++◌}
-use Rattle.std.proofs.Math.Dec.{leb}
-use Rattle.std.proofs.Math.ListN.{length, drop}
 use Rattle.std.proofs.Math.Seq.{take-append-add}
-use Rattle.rules.specs.Reader.{Reader, prefix, skip, ret, if_r, ◌>>=◌, ◌>>◌}
+use Rattle.refusal.specs.declared.Refusal.{Refusal}
+use Rattle.rules.specs.Reader.{Reader, empty, prefix, skip, ret, if_r, ◌>>=◌, ◌>>◌}
 use Rattle.rules.specs.Bytes.{line_blank}
-use Rattle.rules.specs.Run.{ok, put, Did, write}
+use Rattle.rules.specs.Run.{ok, put, and_then, Did}
 use Rattle.rules.specs.Sheet.{Records}
-use Rattle.rules.specs.Expansion.{Call, call_did, calling, call_step, writes}
+use Rattle.rules.specs.Expansion.{Call, hands_back, refuses, outputs, call_did, calling, call_step, writes}
 use Rattle.scan.specs.Sets.{part, Spans, Sees, Starts, byte_is}
-use Rattle.scan.specs.Laws.{sees-the, not_end, skips-at, prefix-split}
-use Rattle.sheet.specs.Find.{IsSheet}
-use Rattle.buffers.specs.Put.{Writer, Put}
-use Rattle.buffers.specs.Emits.{Emits, emits-put, emits-fills}
-use Rattle.calls.specs.declared.Outcome.TheVariants.{HandedBack, Refused, Output}
+use Rattle.scan.specs.Laws.{sees-the, not_end, skips-at, prefix-split, tail-part}
+use Rattle.buffers.specs.declared.writer.Writer.{Writer}
+use Rattle.buffers.specs.Wrote.{Wrote, wrote-then, wrote-ok, wrote-err}
 use Rattle.calls.specs.declared.Called.{Called}
-use Rattle.calls.specs.Called.{Says, Calls}
-use Rattle.expansion_steps.specs.declared.WriteStep.{WriteStep}
+use Rattle.calls.specs.Called.{call_emit, IsOutcome, Reads, Calls, call-refused}
+use Rattle.expansion_steps.specs.declared.output.Step.{Step}
 
--- A writer at p to which all has fitted so far; its buffer is no longer than the room, and may be shorter.
-pub record Space (room : ℕ) (b : List ℕ) (p : ℕ) : Type 0 where
-  pub place : p ≤ room
-  pub buffer : length b ≤ room
-  pub fits : room + 1 < 2 ^ 64
+-- The step d, in the text t: reading goes on behind k bytes, at least n; x: is it whole.
+pub record Goes (n : ℕ) (d : Did Records × List ℕ) (t : List ℕ) (k : ℕ) (x : Bool) : Type 0 where
+  pub on : n ≤ k
+  pub inside : k ≤ length t
+  pub rest : d.1 ≡ drop k t
+  pub whole : d.0.whole ≡ x
 
-pub space-writer : {room : ℕ} {b : List ℕ} {p : ℕ} → Space room b p → Writer room p
-space-writer s = record { place = omega (arith, s.place); fits = s.fits }
-
-pub space-same : {room : ℕ} {b c : List ℕ} {p : ℕ} → length c ≡ length b → Space room b p → Space room c p
-space-same l s = record { place = s.place; buffer = omega (arith, s.buffer); fits = s.fits }
-
--- The text v is output, and reading goes on at e.
-pub record Shows (full room : ℕ) (v : List ℕ) (e : ℕ) (w : Bool) (b : List ℕ) (p : ℕ) (c : List ℕ) (r : WriteStep) : Type 0 where
-  pub emits : Emits full room (put v ok) b p c r.ok r.number r.next
-  pub at : r.at ≡ e
-  pub wholes : r.whole ≡ w
-
--- The step d of the records s: what it writes, and, if all is written, where reading goes on.
-pub record Does (full room : ℕ) (d : Did Records × List ℕ) (s : Records) (t b : List ℕ) (p : ℕ) (c : List ℕ) (r : WriteStep) : Type 0 where
-  pub emits : Emits full room d.0.emit b p c r.ok r.number r.next
+-- What the step d of the records s, in the text t, comes to: what it writes, and where reading goes on; or it is refused. The records stay.
+pub record Does (n : ℕ) (d : Did Records × List ℕ) (s : Records) (t : List ℕ) (w w₂ : Writer) (r : Result Step Refusal) : Type 0 where
+  pub wrote : Wrote d.0.emit w w₂ r
   pub state : d.0.state ≡ s
-  pub rest : r.ok ≡ true → d.1 ≡ drop r.at t
-  pub wholes : r.ok ≡ true → d.0.whole ≡ r.whole
+  pub goes : IfOk r (λ k. Goes n d t k.used k.whole)
 
--- The call k was read in t, from behind the `(` at e; o is the buffer that it leaves.
-pub record Ends (full room : ℕ) (k : Called) (t : List ℕ) (at e : ℕ) (o : List ℕ) (p : ℕ) (c : List ℕ) (r : WriteStep) : Type 0 where
-  pub size : length c ≡ length o
-  pub on : e ≤ k.at → e ≤ r.at
-  pub inside : k.at ≤ length t → r.at ≤ length t
-  pub does : (s : Records) (x : Call × List ℕ) (b : List ℕ) → length b ≡ length o → p ≤ room → Says room x t b p o k.outcome k.at → Does full room (call_did s (part t at e) x.0 x.1 (drop e t)) s t b p c r
+-- A text is output, and the step is k.
+pub record Shows (v : List ℕ) (k : Step) (w w₂ : Writer) (r : Result Step Refusal) : Type 0 where
+  pub wrote : Wrote (put v ok) w w₂ r
+  pub goes : IfOk r (λ s. s ≡ k)
+
+-- The end of a call whose `(` stands at i in t, and that read k bytes behind it: handed back, what stands before the `(` is output.
+unfoldable pub Ends : Option Bool → ℕ → List ℕ → ℕ → Writer → Writer → Result Step Refusal → Type 0
+Ends None k t i w w₂ r = Shows (take i t) (record { whole = ltb (i + 1 + k) (length t); used = i }) w w₂ r
+Ends (Some x) k t i w w₂ r = (w₂ ≡ w) × (r ≡ Ok (record { whole = x; used = i + 1 + k }))
 
 -- LAWS. A text that is output.
-pub shows : {full room : ℕ} {v b c : List ℕ} {p q e : ℕ} {w : Bool} → p ≤ room → Put room b p v c q → Shows full room v e w b p c (record { ok = leb q room; number = full; whole = w; at = e; next = q })
-shows {full} h s = record { emits = emits-put {full = full} h s; at = refl; wholes = refl }
+module _ {v : List ℕ} {k : Step} {w w₂ : Writer} {q : Result (Unit {0}) Refusal} (W : Wrote (put v ok) w w₂ q) where
+  pub shows-no : {e : Refusal} → q ≡ Err e → {r : Result Step Refusal} → r ≡ Err e → Shows v k w w₂ r
+  shows-no x y = record { wrote = wrote-err x W y; goes = rw y tt }
 
--- The ways through the end of a call.
-module _ (full room : ℕ) (k : Called) (t : List ℕ) (at e : ℕ) (o : List ℕ) (p : ℕ) where
-  pub ends-back : k.outcome ≡ HandedBack → e ≤ length t → {c : List ℕ} {r : WriteStep} → Shows full room (part t at e) e (ltb k.at (length t)) o p c r → Ends full room k t at e o p c r
-  unfolding Says call_did write
-  ends-back h i {c} {r} w = record {
-    size = w.emits.size;
-    on = λ z. omega (arith, w.at);
-    inside = λ z. omega (arith, w.at);
-    does = λ s x b l y g. does s x b (rw h at g);
+  pub shows-yes : {u : Unit {0}} → q ≡ Ok u → Shows v k w w₂ (Ok k)
+  shows-yes x = record { wrote = wrote-ok x W; goes = refl }
+
+-- A step that outputs a text and goes on behind k bytes.
+module _ {n : ℕ} {d : Did Records × List ℕ} {s : Records} {t v : List ℕ} {k : ℕ} {w w₂ : Writer} {r : Result Step Refusal} where
+  pub does-shown : n ≤ k → k ≤ length t → d ≡ (writes s v, drop k t) → Shows v (record { whole = true; used = k }) w w₂ r → Does n d s t w w₂ r
+  unfolding writes
+  does-shown l i e S = rw e (record {
+    wrote = S.wrote;
+    state = refl;
+    goes = IfOk-weaker r _ _ (λ x z. rw z (record { on = l; inside = i; rest = refl; whole = refl })) S.goes;
+  })
+
+-- What a call does keeps the records.
+call_state : (s : Records) (v : List ℕ) (c : Call) (u t : List ℕ) → (call_did s v c u t).0.state ≡ s
+unfolding call_did
+call_state s v hands_back u t = refl
+call_state s v (refuses k) u t = refl
+call_state s v (outputs x o) u t = refl
+
+-- The end of a call that read k bytes behind the `(` at i.
+module _ {n : ℕ} (s : Records) {t : List ℕ} {i : ℕ} (l : n ≤ i) (h : i < length t) {k : ℕ} (g : k ≤ length (drop (i + 1) t)) {a : Called} {w w₁ w₂ : Writer} {r : Result Step Refusal} where
+  ended-back : Wrote ok w w₁ (Ok a) → Ends None k t i w₁ w₂ r → Does n (call_did s (take i t) hands_back (drop k (drop (i + 1) t)) (drop i t)) s t w w₂ r
+  unfolding call_did Ends and_then
+  ended-back W S = record {
+    wrote = wrote-then refl W S.wrote;
+    state = refl;
+    goes = IfOk-weaker r _ _ (λ x z. rw z (record { on = l; inside = omega arith; rest = refl; whole = ap (λ z. not (empty z)) (drop-drop k (i + 1) t) ∙ not_end t (i + 1 + k) })) S.goes;
   }
-    where
-      does : (s : Records) (x : Call × List ℕ) (b : List ℕ) → Says room x t b p o HandedBack k.at → Does full room (call_did s (part t at e) x.0 x.1 (drop e t)) s t b p c r
-      does s x b (e₁, e₂) = subst (λ z. Does full room (call_did s (part t at e) z.0 z.1 (drop e t)) s t b p c r) (sym e₁) (record {
-        emits = subst (λ z. Emits full room (put (part t at e) ok) z p c r.ok r.number r.next) e₂ w.emits;
-        state = refl;
-        rest = λ z. ap (λ y. drop y t) (sym w.at);
-        wholes = λ z. not_end t k.at ∙ sym w.wholes;
-      })
 
-  pub ends-refused : {n : ℕ} → k.outcome ≡ Refused n → Ends full room k t at e o p o (record { ok = false; number = n; whole = true; at = k.at; next = p })
-  unfolding Says call_did write
-  ends-refused {n} h = record {
-    size = refl;
-    on = λ z. z;
-    inside = λ z. z;
-    does = λ s x b l y g. does s x b l (rw h at g);
-  }
-    where
-      does : (s : Records) (x : Call × List ℕ) (b : List ℕ) → length b ≡ length o → Says room x t b p o (Refused n) k.at → Does full room (call_did s (part t at e) x.0 x.1 (drop e t)) s t b p o (record { ok = false; number = n; whole = true; at = k.at; next = p })
-      does s x b l g = subst (λ z. Does full room (call_did s (part t at e) z x.1 (drop e t)) s t b p o (record { ok = false; number = n; whole = true; at = k.at; next = p })) (sym g) (record {
-        emits = record { size = sym l; goes = λ z. absurd (true≢false (sym z)); stops = λ z. refl };
-        state = refl;
-        rest = λ z. absurd (true≢false (sym z));
-        wholes = λ z. absurd (true≢false (sym z));
-      })
+  ended-output : (x : Bool) (o : List ℕ) → Wrote (put o ok) w w₁ (Ok a) → Ends (Some x) k t i w₁ w₂ r → Does n (call_did s (take i t) (outputs x o) (drop k (drop (i + 1) t)) (drop i t)) s t w w₂ r
+  unfolding call_did Ends
+  ended-output x o W (e, f) = rw (e, f) (record { wrote = wrote-ok refl W; state = refl; goes = record { on = omega arith; inside = omega (arith, length-drop (i + 1) t); rest = drop-drop k (i + 1) t; whole = refl } })
 
-  pub ends-output : {w : Bool} {q : ℕ} → k.outcome ≡ Output w q → Ends full room k t at e o p o (record { ok = leb q room; number = full; whole = w; at = k.at; next = q })
-  unfolding Says call_did write
-  ends-output {w} {q} h = record {
-    size = refl;
-    on = λ z. z;
-    inside = λ z. z;
-    does = λ s x b l y g. does s x b y (rw h at g);
-  }
-    where
-      does : (s : Records) (x : Call × List ℕ) (b : List ℕ) → p ≤ room → Says room x t b p o (Output w q) k.at → Does full room (call_did s (part t at e) x.0 x.1 (drop e t)) s t b p o (record { ok = leb q room; number = full; whole = w; at = k.at; next = q })
-      does s x b y (v, e₁, f) = subst (λ z. Does full room (call_did s (part t at e) z.0 z.1 (drop e t)) s t b p o (record { ok = leb q room; number = full; whole = w; at = k.at; next = q })) (sym e₁) (record {
-        emits = emits-fills y f;
-        state = refl;
-        rest = λ z. refl;
-        wholes = λ z. refl;
-      })
-
--- The step f from i on, for the sheet z.
-pub record StepsBy (full room : ℕ) (f : Records → Reader (Did Records)) (t : List ℕ) (i : ℕ) (z b : List ℕ) (p : ℕ) (c : List ℕ) (r : WriteStep) : Type 0 where
-  pub size : length c ≡ length b
-  pub on : i ≤ r.at
-  pub inside : r.at ≤ length t
-  pub does : (s : IsSheet z) → Does full room (f s.r (drop i t)) s.r t b p c r
+  ended : (o : Option Bool) (c : Call) → IsOutcome c o → Wrote (call_emit c) w w₁ (Ok a) → Ends o k t i w₁ w₂ r → Does n (call_did s (take i t) c (drop k (drop (i + 1) t)) (drop i t)) s t w w₂ r
+  unfolding IsOutcome call_emit
+  ended None c e W E = rw e (ended-back (rw e at W) E)
+  ended (Some x) c (o, e) W E = rw e (ended-output x o (rw e at W) E)
 
 -- A mark and what stands behind it.
-mark-part : (m t : List ℕ) (at i : ℕ) → prefix m (drop at t) ≡ true → at + length m ≤ i → part t at i ≡ m ++ part t (at + length m) i
-mark-part m t at i h k =
-    let n = i - (at + length m) in
-    let z : i - at ≡ length m + n = omega arith in
-    ap (λ x. take x (drop at t)) z ∙ ap (take (length m + n)) (prefix-split m (drop at t) h) ∙ take-append-add m (drop (length m) (drop at t)) n ∙ ap (λ x. m ++ take n x) (drop-drop (length m) at t)
+pub mark-part : (m t : List ℕ) (i : ℕ) → prefix m t ≡ true → length m ≤ i → take i t ≡ m ++ part t (length m) i
+mark-part m t i h k =
+    let n = i - length m in
+    let z : i ≡ length m + n = omega arith in
+    ap (λ x. take x t) z ∙ ap (take (length m + n)) (prefix-split m t h) ∙ take-append-add m (drop (length m) t) n
 
--- The ways through a call's step. m: its mark, at a place; call: how it is read.
-module _ {full room : ℕ} (m : List ℕ) (call : Records → Reader Call) {t : List ℕ} {at : ℕ} (M : Starts m t at true) {i : ℕ} (L : Spans line_blank t (at + length m) i) {f : Bool} (q : Sees (byte_is 40) t i f) {z b : List ℕ} {p : ℕ} {c : List ℕ} {r : WriteStep} where
-  pub step-plain : f ≡ false → Shows full room (part t at i) i true b p c r → StepsBy full room (λ s. call_step m (call s) s) t (at + length m) z b p c r
-  unfolding call_step writes ◌>>=◌ if_r ret
-  step-plain e w = record { size = w.emits.size; on = omega (arith, L.on, w.at); inside = omega (arith, L.inside, w.at); does = λ s. does s.r }
-    where
-      reads : (s : Records) → call_step m (call s) s (drop (at + length m) t) ≡ (writes s (part t at i), drop i t)
-      reads s = rw (L.rest, (sees-the "(" q e).says, L.took, sym (mark-part m t at i M.says L.on)) refl
+-- The ways through a call's step. m: its mark, at the start of t; call: how it is read.
+module _ (m : List ℕ) (call : Reader Call) (s : Records) {t : List ℕ} (M : Starts m t 0 true) {i : ℕ} (L : Spans line_blank t (length m) i) {f : Bool} (q : Sees (byte_is 40) t i f) where
+  pub step-plain : f ≡ false → {w w₂ : Writer} {r : Result Step Refusal} → Shows (take i t) (record { whole = true; used = i }) w w₂ r → Does (length m) (call_step m call s (drop (length m) t)) s t w w₂ r
+  unfolding call_step ◌>>=◌ if_r ret
+  step-plain e S = does-shown L.on L.inside (rw (L.rest, (sees-the "(" q e).says, L.took, sym (mark-part m t i M.says L.on)) refl) S
 
-      does : (s : Records) → Does full room (call_step m (call s) s (drop (at + length m) t)) s t b p c r
-      does s = subst (λ x. Does full room x s t b p c r) (sym (reads s)) (record { emits = w.emits; state = refl; rest = λ y. ap (λ x. drop x t) (sym w.at); wholes = λ y. sym w.wholes })
+  module _ (e : f ≡ true) where
+    at_paren : call_step m call s (drop (length m) t) ≡ call_did s (take i t) (call (skip (drop i t)).1).0 (call (skip (drop i t)).1).1 (drop i t)
+    unfolding call_step calling ◌>>=◌ ◌>>◌ if_r
+    at_paren = rw (L.rest, (sees-the "(" q e).says, L.took, sym (mark-part m t i M.says L.on)) refl
 
-  pub step_call : f ≡ true → p ≤ room → {o : List ℕ} {k : Called} → ((s : IsSheet z) → Calls room (call s.r (drop (i + 1) t)) t (i + 1) b p o k) → IsSheet z → Ends full room k t at i o p c r → StepsBy full room (λ s. call_step m (call s) s) t (at + length m) z b p c r
-  unfolding call_step calling ◌>>=◌ ◌>>◌ if_r ret
-  step_call e h {o} {k} K s₀ w = record {
-    size = w.size ∙ (K s₀).size;
-    on = omega (arith, L.on, w.on (omega (arith, (K s₀).on)));
-    inside = w.inside (K s₀).inside;
-    does = λ s. does s;
-  }
-    where
-      at_paren : (s : Records) → call_step m (call s) s (drop (at + length m) t) ≡ call_did s (part t at i) (call s (skip (drop i t)).1).0 (call s (skip (drop i t)).1).1 (drop i t)
-      at_paren s = rw (L.rest, (sees-the "(" q e).says, L.took, sym (mark-part m t at i M.says L.on)) refl
+    reads : call_step m call s (drop (length m) t) ≡ call_did s (take i t) (call (drop (i + 1) t)).0 (call (drop (i + 1) t)).1 (drop i t)
+    reads = at_paren ∙ ap (λ u. call_did s (take i t) (call u).0 (call u).1 (drop i t)) (skips-at t i (q.there e)).rest
 
-      reads : (s : Records) → call_step m (call s) s (drop (at + length m) t) ≡ call_did s (part t at i) (call s (drop (i + 1) t)).0 (call s (drop (i + 1) t)).1 (drop i t)
-      reads s = at_paren s ∙ ap (λ u. call_did s (part t at i) (call s u).0 (call s u).1 (drop i t)) (skips-at t i (q.there e)).rest
+    module _ {w w₁ : Writer} {a : Result Called Refusal} (K : Calls (call (part t (i + 1) (length t))) (part t (i + 1) (length t)) w w₁ a) where
+      C : Calls (call (drop (i + 1) t)) (drop (i + 1) t) w w₁ a
+      C = rw (tail-part t (i + 1)) at K
 
-      does : (s : IsSheet z) → Does full room (call_step m (call s.r) s.r (drop (at + length m) t)) s.r t b p c r
-      does s = subst (λ x. Does full room x s.r t b p c r) (sym (reads s.r)) (w.does s.r (call s.r (drop (i + 1) t)) b (sym (K s).size) h (K s).says)
+      pub step-refused : {j : Refusal} → a ≡ Err j → {r : Result Step Refusal} → r ≡ Err j → Does (length m) (call_step m call s (drop (length m) t)) s t w w₁ r
+      step-refused x y = rw reads (record { wrote = call-refused s (take i t) _ _ C x y; state = call_state s (take i t) _ _ _; goes = rw y tt })
+
+      pub step-ended : {k : Called} → a ≡ Ok k → {w₂ : Writer} {r : Result Step Refusal} → Ends k.whole k.used t i w₁ w₂ r → Does (length m) (call_step m call s (drop (length m) t)) s t w w₂ r
+      step-ended {k} x {w₂} {r} E =
+          let R : Reads (call (drop (i + 1) t)) (drop (i + 1) t) k = rw x at C.reads in
+          let D = ended s L.on (q.there e) R.inside k.whole (call (drop (i + 1) t)).0 R.outcome (rw x at C.wrote) E in
+          rw reads (rw (← R.rest) at D)

@@ -1,117 +1,82 @@
 // The steps `#raw` and `#link`, each from its mark.
-ghost use Rattle.std.specs.Prelude.{◌≡◌, true, ◌+◌, ◌≤◌, length};
+ghost use Rattle.std.specs.Prelude.{◌≡◌, true, ◌+◌, ◌≤◌, length, drop};
 ghost use Rattle.rules.specs.Reader.{bytes};
-ghost use Rattle.rules.specs.Bundle.{bundle_of};
 ghost use Rattle.rules.specs.Files.{view};
 ghost use Rattle.rules.specs.Sheet.{resolve};
 ghost use Rattle.rules.specs.Expansion.{call_step, raw, link};
-ghost use Rattle.rules.specs.Answer.{is_some};
-ghost use Rattle.scan.specs.Sets.{part, Starts};
+ghost use Rattle.scan.specs.Sets.{Starts};
 ghost use Rattle.bundle.specs.Find.{entries_of};
-ghost use Rattle.sheet.specs.Find.{IsSheet};
-ghost use Rattle.expansion_steps.specs.Call.{Space, Shows, Ends, StepsBy};
+ghost use Rattle.sheet.specs.Records.{records_of};
+ghost use Rattle.expansion_steps.specs.Call.{Ends, Does};
 
-use crate::WriteStep;
-use calls::{Called, Outcome};
+use crate::output::{Step, show};
+use buffers::writer::Writer;
+use bundle::Bundle;
+use calls::Called;
+use refusal::Refusal;
 use scan::Set;
+use sheet::Sheet;
 
-// Outputs the mark and the blanks behind it, from `at` to `end`, and goes on there.
-fn show(
-    text: &[u8],
-    at: usize,
-    end: usize,
-    whole: bool,
-    out: &mut [u8],
-    room: usize,
-    p: usize,
-    full: u8,
-) -> WriteStep
-    requires { (at ≤ end) × (end ≤ length text.now) × Space room out.old p }
-    ensures { Shows full room (part text.now at end) end whole out.old p out.new result }
+// What a call comes to whose `(` stands at `end`; handed back, the mark and the blanks behind it are output, and reading goes on from the `(`.
+fn end_call(called: Called, text: &[u8], end: usize, w: &mut Writer<'_>) -> Result<Step, Refusal>
+    requires { end + 1 + called.used ≤ length text.now }
+    ensures { Ends called.whole called.used text.now end w.old w.new result }
 {
-    let q = buffers::put(out, room, p, &text[at..end]);
-    WriteStep {
-        ok: q <= room,
-        number: full,
-        whole: whole,
-        at: end,
-        next: q,
+    let used = end + 1 + called.used;
+    match called.whole {
+        Some(whole) => Ok(Step { whole, used }),
+        None => show(
+            &text[..end],
+            Step {
+                whole: used < text.len(),
+                used: end,
+            },
+            w,
+        ),
     }
 }
 
-// What a call comes to; handed back, the mark and the blanks behind it are output, and reading goes on from the `(`.
-fn end_call(
-    c: Called,
-    text: &[u8],
-    at: usize,
-    end: usize,
-    out: &mut [u8],
-    room: usize,
-    p: usize,
-    full: u8,
-) -> WriteStep
-    requires { (at ≤ end) × (end ≤ length text.now) × Space room out.old p }
-    ensures { Ends full room c text.now at end out.old p out.new result }
-{
-    let outcome = c.outcome;
-    match outcome {
-        Outcome::HandedBack => show(text, at, end, c.at < text.len(), out, room, p, full),
-        Outcome::Refused { number } => WriteStep {
-            ok: false,
-            number: number,
-            whole: true,
-            at: c.at,
-            next: p,
-        },
-        Outcome::Output { whole, next } => WriteStep {
-            ok: next <= room,
-            number: full,
-            whole: whole,
-            at: c.at,
-            next: next,
-        },
-    }
-}
-
-// `#raw`, whose mark stands at a place.
+// `#raw`, with which the text begins.
 pub fn raw_step(
-    b: &[u8],
+    bundle: &Bundle<'_>,
     text: &[u8],
-    at: usize,
-    sheet: &[u8],
-    out: &mut [u8],
-    room: usize,
-    p: usize,
-    full: u8,
-) -> WriteStep
-    requires { (is_some (bundle_of b.now) ≡ true) × Starts (bytes "#raw") text.now at true × Space room out.old p × IsSheet sheet.now }
-    ensures { StepsBy full room (λ s. call_step (bytes "#raw") (raw (view (entries_of b.now)) (resolve s)) s) text.now (at + 4) sheet.now out.old p out.new result }
+    sheet: &Sheet<'_>,
+    w: &mut Writer<'_>,
+) -> Result<Step, Refusal>
+    requires { Starts (bytes "#raw") text.now 0 true }
+    ensures { Does 4 (call_step (bytes "#raw") (raw (view (entries_of bundle.now)) (resolve (records_of sheet.now))) (records_of sheet.now) (drop 4 text.now)) (records_of sheet.now) text.now w.old w.new result }
 {
-    let i = scan::span(text, at + 4, Set::LineBlank);
-    if !scan::at(text, i, b'(') {
-        return show(text, at, i, true, out, room, p, full);
+    let end = scan::span(text, 4, Set::LineBlank);
+    if !scan::at(text, end, b'(') {
+        return show(
+            &text[..end],
+            Step {
+                whole: true,
+                used: end,
+            },
+            w,
+        );
     }
-    let c = raw_call::raw(b, text, i + 1, sheet, out, room, p);
-    end_call(c, text, at, i, out, room, p, full)
+    let called = raw_call::raw(bundle, &text[end + 1..], sheet, w)?;
+    end_call(called, text, end, w)
 }
 
-// `#link`, whose mark stands at a place.
-pub fn link_step(
-    text: &[u8],
-    at: usize,
-    sheet: &[u8],
-    out: &mut [u8],
-    room: usize,
-    p: usize,
-    full: u8,
-) -> WriteStep
-    requires { Starts (bytes "#link") text.now at true × Space room out.old p × IsSheet sheet.now }
-    ensures { StepsBy full room (λ s. call_step (bytes "#link") (link (resolve s)) s) text.now (at + 5) sheet.now out.old p out.new result }
+// `#link`, with which the text begins.
+pub fn link_step(text: &[u8], sheet: &Sheet<'_>, w: &mut Writer<'_>) -> Result<Step, Refusal>
+    requires { Starts (bytes "#link") text.now 0 true }
+    ensures { Does 5 (call_step (bytes "#link") (link (resolve (records_of sheet.now))) (records_of sheet.now) (drop 5 text.now)) (records_of sheet.now) text.now w.old w.new result }
 {
-    let i = scan::span(text, at + 5, Set::LineBlank);
-    if !scan::at(text, i, b'(') {
-        return show(text, at, i, true, out, room, p, full);
+    let end = scan::span(text, 5, Set::LineBlank);
+    if !scan::at(text, end, b'(') {
+        return show(
+            &text[..end],
+            Step {
+                whole: true,
+                used: end,
+            },
+            w,
+        );
     }
-    let c = link_call::link(text, i + 1, sheet, out, room, p);
-    end_call(c, text, at, i, out, room, p, full)
+    let called = link_call::link(&text[end + 1..], sheet, w)?;
+    end_call(called, text, end, w)
 }

@@ -1,53 +1,34 @@
 // The step at a `#` that begins no mark.
-ghost use Rattle.std.specs.Prelude.{◌≤◌, length};
-ghost use Rattle.sheet.specs.Find.{IsSheet};
-ghost use Rattle.expansion_steps.specs.Call.{Space};
-ghost use Rattle.expansion_steps.specs.Reference.{Refers};
+ghost use Rattle.rules.specs.Sheet.{resolve};
+ghost use Rattle.rules.specs.Expansion.{reference_step};
+ghost use Rattle.sheet.specs.Records.{records_of};
+ghost use Rattle.expansion_steps.specs.Call.{Does};
 
-use crate::WriteStep;
+use crate::output::{Step, show};
+use buffers::writer::Writer;
+use refusal::Refusal;
 use scan::Set;
+use sheet::{Name, Sheet};
 
-// `#`: copied before a byte that is no letter, and before a run and `(`, with the run; else puts the text of the run's reference.
-pub fn reference_step(
-    text: &[u8],
-    at: usize,
-    sheet: &[u8],
-    out: &mut [u8],
-    room: usize,
-    p: usize,
-    full: u8,
-) -> WriteStep
-    requires { (at ≤ length text.now) × Space room out.old p × IsSheet sheet.now }
-    ensures { Refers text.now at sheet.now full room out.old p out.new result }
+// `#`, behind which the text begins: copied before a byte that is no letter, and before a run and `(`, with the run; else puts the text of the run's reference.
+pub fn reference_step(text: &[u8], sheet: &Sheet<'_>, w: &mut Writer<'_>) -> Result<Step, Refusal>
+    ensures { Does 0 (reference_step (resolve (records_of sheet.now)) (records_of sheet.now) text.now) (records_of sheet.now) text.now w.old w.new result }
 {
-    if !scan::sees(text, at, Set::Letter) {
-        let q = buffers::put_byte(out, room, p, b'#');
-        return WriteStep {
-            ok: q <= room,
-            number: full,
+    if !scan::sees(text, 0, Set::Letter) {
+        w.put_byte(b'#')?;
+        return Ok(Step {
             whole: true,
-            at: at,
-            next: q,
-        };
+            used: 0,
+        });
     }
-    let end = scan::span(text, at, Set::Run);
-    if scan::at(text, end, b'(') {
-        let hash = buffers::put_byte(out, room, p, b'#');
-        let q = buffers::put(out, room, hash, &text[at..end]);
-        return WriteStep {
-            ok: q <= room,
-            number: full,
-            whole: true,
-            at: end,
-            next: q,
-        };
-    }
-    let q = strings::reference(sheet, &text[at..end], out, room, p);
-    WriteStep {
-        ok: q <= room,
-        number: full,
+    let end = scan::span(text, 0, Set::Run);
+    let step = Step {
         whole: true,
-        at: end,
-        next: q,
+        used: end,
+    };
+    if scan::at(text, end, b'(') {
+        w.put_byte(b'#')?;
+        return show(&text[..end], step, w);
     }
+    show(sheet.text(Name::Reference(&text[..end])), step, w)
 }

@@ -1,18 +1,23 @@
 -- Laws of the words of an import, one round at a time.
-use Rattle.std.specs.Prelude.{◌≡◌, Bool, true, false, not, List, [], ◌∷◌, ◌++◌, ℕ, zero, suc, ◌+◌, ◌≤◌, ◌<◌, length, drop, eqb}
+use Rattle.std.specs.Prelude.{◌≡◌, Bool, true, false, not, List, [], ◌∷◌, ◌++◌, ℕ, zero, suc, ◌+◌, ◌-◌, ◌≤◌, ◌<◌, length, take, drop, eqb}
 use Rattle.std.proofs.Math.Path.{refl, ap}
 use Rattle.std.proofs.Common.{sym, ◌∙◌, true≢false, append-nil, append_assoc, arith, eqb-true}
-use Rattle.rules.specs.Reader.{ret, if_r, ◌>>=◌, ◌>>◌, bytes, the, but, span, prefix, mark, loop, rounds, again, stop}
+use Rattle.std.proofs.Math.Nat.{sub-zero}
+use Rattle.scan.specs.Stretches.{span-took}
+use Rattle.rules.specs.Reader.{all, ret, if_r, ◌>>=◌, ◌>>◌, bytes, the, but, span, prefix, mark, loop, rounds, again, stop}
 use Rattle.rules.specs.Bytes.{word}
 use Rattle.rules.specs.Definitions.{Names, star, listed, listed_more, word_round, names}
 use Rattle.rules.proofs.Laws.Entries.{word-moving}
 use Rattle.rules.proofs.Laws.Enough.{rounds-again, rounds-stop}
 use Rattle.scan.specs.Sets.{part, Spans, Starts}
-use Rattle.scan.specs.Laws.{mark-yes, mark-no, mark_of, prefix-split}
-use Rattle.std.specs.Prelude.{Option as RustOption, Some, None}
-use Rattle.imported_names.specs.Names.{Ready, BindsNames}
+use Rattle.scan.specs.Laws.{mark-yes, mark-no, mark_of, prefix-split, tail-part}
+use Rattle.std.specs.Prelude.{Result, Ok, Err}
+use Rattle.refusal.specs.declared.Refusal.{Refusal}
+use Rattle.binding.specs.declared.sheet_buffer.SheetBuffer.{SheetBuffer}
+use Rattle.binding.specs.Sheets.{SameSheet, sheet-refl, sheet-then}
+use Rattle.imported_names.specs.Names.{IsWord, BindsNames}
 use Rattle.imported_names.specs.Words.{words}
-use Rattle.imported_names.proofs.Names.{names_as, none-bound, names-over, names-then, ready_on}
+use Rattle.imported_names.proofs.Names.{names_as, none-bound, names-over, names-then}
 
 -- LAWS. A round, by whether a `,` stands behind the spaces.
 round-yes : (ws : List (List ℕ)) (t : List ℕ) → (mark (bytes ",") (span (the " ") t).1).0 ≡ true →
@@ -61,23 +66,22 @@ pub later-rounds : (ws : List (List ℕ)) (t : List ℕ) → (rounds word_round 
 unfolding rounds later
 later-rounds ws t = (loop-more (suc (length t)) t).is ws
 
--- ROUNDS. The words behind `at` are bound, up to i.
-pub record BindingMore (t : List ℕ) (at : ℕ) (z b : List ℕ) (n limit : ℕ) (c : List ℕ) (len i : ℕ) : Type 0 where
+-- ROUNDS. The words of t are bound, up to i.
+pub record BindingMore (t z : List ℕ) (b c : SheetBuffer) (i : ℕ) : Type 0 where
   pub inside : i ≤ length t
-  pub size : length c ≡ length b
-  pub ready : Ready z c len limit
-  pub goes : (d : List ℕ) (o : RustOption ℕ) → BindsNames (listed (later (drop i t))) z c len limit d o → BindsNames (rounds word_round listed [] (drop at t)).0 z b n limit d o
+  pub over : SameSheet b c
+  pub goes : (d : SheetBuffer) (o : Result (Unit {0}) Refusal) → BindsNames (listed (later (drop i t))) z c d o → BindsNames (rounds word_round listed [] t).0 z b d o
 
-pub more-start : (t : List ℕ) (at : ℕ) {z b : List ℕ} {n limit : ℕ} → at ≤ length t → Ready z b n limit → BindingMore t at z b n limit b n at
-more-start t at h p = record { inside = h; size = refl; ready = p; goes = λ d o w. names_as (sym (later-rounds [] (drop at t))) w }
+pub more-start : (t z : List ℕ) (b : SheetBuffer) → BindingMore t z b b 0
+more-start t z b = record { inside = omega arith; over = sheet-refl b; goes = λ d o w. names_as (sym (later-rounds [] t)) w }
 
 -- The spaces behind i end at j.
-module _ {t : List ℕ} {at : ℕ} {z b : List ℕ} {n limit : ℕ} {c : List ℕ} {len i : ℕ} (k : BindingMore t at z b n limit c len i) {j : ℕ} (x : Spans (the " ") t i j) {f : Bool} (m : Starts (bytes ",") t j f) where
-  pub more-end : f ≡ false → BindsNames (rounds word_round listed [] (drop at t)).0 z b n limit c (Some len)
+module _ {t z : List ℕ} {b c : SheetBuffer} {i : ℕ} (k : BindingMore t z b c i) {j : ℕ} (x : Spans (the " ") t i j) {f : Bool} (m : Starts (bytes ",") t j f) where
+  pub more-end : f ≡ false → {u : Unit {0}} → BindsNames (rounds word_round listed [] t).0 z b c (Ok u)
   more-end e =
       let u : (mark (bytes ",") (span (the " ") (drop i t)).1).0 ≡ false = rw x.rest (ap (λ q. q.0) (mark-no m e)) in
       let v : listed (later (drop i t)) ≡ listed [] = sym (later-rounds [] (drop i t)) ∙ ap (λ q. q.0) (rounds-stop word_round listed word-moving [] (listed []) (drop i t) (round-no [] (drop i t) u)) in
-      k.goes c (Some len) (names_as (sym v) (none-bound k.ready))
+      k.goes c _ (names_as (sym v) (none-bound z c))
 
   module _ (h : f ≡ true) {a e : ℕ} (y : Spans (the " ") t (j + 1) a) (w : Spans word t a e) where
     round-on : word_round [] (drop i t) ≡ (again (listed_more [] (part t a e)), drop e t)
@@ -90,37 +94,43 @@ module _ {t : List ℕ} {at : ℕ} {z b : List ℕ} {n limit : ℕ} {c : List �
         let r = rounds-again word_round listed word-moving [] ws (drop i t) (ap (λ q. q.0) round-on) ∙ ap (λ q. rounds word_round listed ws q.1) round-on in
         sym (later-rounds ws (drop e t)) ∙ ap (λ q. q.0) (sym r) ∙ later-rounds [] (drop i t)
 
-    module _ {d : List ℕ} {o : RustOption ℕ} (v : BindsNames (listed (listed_more [] (part t a e))) z c len limit d o) where
-      pub more-over : o ≡ None → BindsNames (rounds word_round listed [] (drop at t)).0 z b n limit d None
-      more-over q = k.goes d None (names_as later-on (names-over (later (drop e t)) v q))
+    module _ {d : SheetBuffer} {q : Result (Unit {0}) Refusal} (v : BindsNames (listed (listed_more [] (part t a e))) z c d q) where
+      pub more-over : {n : Refusal} → q ≡ Err n → {o : Result (Unit {0}) Refusal} → o ≡ Err n → BindsNames (rounds word_round listed [] t).0 z b d o
+      more-over g r = k.goes d _ (names_as later-on (names-over (later (drop e t)) v g r))
 
-      pub more-on : {l : ℕ} → o ≡ Some l → BindingMore t at z b n limit d l e
-      more-on q = record {
+      pub more-on : {u : Unit {0}} → q ≡ Ok u → BindingMore t z b d e
+      more-on g = record {
         inside = w.inside;
-        size = v.size ∙ k.size;
-        ready = ready_on k.ready v q;
-        goes = λ d' o' g. k.goes d' o' (names_as later-on (names-then (later (drop e t)) v q g));
+        over = sheet-then k.over v.over;
+        goes = λ d' o r. k.goes d' o (names_as later-on (names-then (later (drop e t)) v g r));
       }
 
 -- WORDS: the first, which ends at i, and those behind it.
-module _ {t : List ℕ} {at i : ℕ} (x : Spans word t at i) {z b : List ℕ} {n limit : ℕ} {c : List ℕ} {o : RustOption ℕ} (w : BindsNames (listed (part t at i ∷ [])) z b n limit c o) where
-  words_are : listed ((part t at i ∷ []) ++ later (drop i t)) ≡ (words (drop at t)).0
+module _ {t : List ℕ} {i : ℕ} (x : Spans word t 0 i) where
+  first : (span word t).0 ≡ take i t
+  first = x.took ∙ ap (λ n. take n t) (sub-zero i)
+
+  pub first-word : IsWord (take i t)
+  first-word = ap (all word) (sym first) ∙ span-took word t
+
+  words_are : listed ((take i t ∷ []) ++ later (drop i t)) ≡ (words t).0
   unfolding words ◌>>=◌
-  words_are = rw (x.took, x.rest) (sym (later-rounds (part t at i ∷ []) (drop i t)))
+  words_are = rw (first, x.rest) (sym (later-rounds (take i t ∷ []) (drop i t)))
 
-  pub words-over : o ≡ None → BindsNames (words (drop at t)).0 z b n limit c None
-  words-over e = names_as words_are (names-over (later (drop i t)) w e)
+  module _ {z : List ℕ} {b c : SheetBuffer} {q : Result (Unit {0}) Refusal} (w : BindsNames (listed (take i t ∷ [])) z b c q) where
+    pub words-over : {k : Refusal} → q ≡ Err k → {o : Result (Unit {0}) Refusal} → o ≡ Err k → BindsNames (words t).0 z b c o
+    words-over e y = names_as words_are (names-over (later (drop i t)) w e y)
 
-  pub words-then : {m : ℕ} {d : List ℕ} {o' : RustOption ℕ} → o ≡ Some m → BindsNames (rounds word_round listed [] (drop i t)).0 z c m limit d o' → BindsNames (words (drop at t)).0 z b n limit d o'
-  words-then e v = names_as words_are (names-then (later (drop i t)) w e (names_as (later-rounds [] (drop i t)) v))
+    pub words-then : {u : Unit {0}} {d : SheetBuffer} {o : Result (Unit {0}) Refusal} → q ≡ Ok u → BindsNames (rounds word_round listed [] (take (length t - i) (drop i t))).0 z c d o → BindsNames (words t).0 z b d o
+    words-then e v = names_as words_are (names-then (later (drop i t)) w e (names_as (later-rounds [] (drop i t)) (rw (tail-part t i) at v)))
 
 -- NAMES: all or words.
-module _ {t : List ℕ} {at : ℕ} {f : Bool} (m : Starts (bytes "*") t at f) where
-  pub names-star : f ≡ true → star ≡ (names (drop at t)).0
+module _ {t : List ℕ} {f : Bool} (m : Starts (bytes "*") t 0 f) where
+  pub names-star : f ≡ true → star ≡ (names t).0
   unfolding names ◌>>=◌ if_r ret
   names-star e = rw (mark-yes m e) refl
 
-  pub names-words : f ≡ false → (words (drop at t)).0 ≡ (names (drop at t)).0
+  pub names-words : f ≡ false → (words t).0 ≡ (names t).0
   unfolding names words ◌>>=◌ if_r ret
   names-words e = rw (mark-no m e) refl
 

@@ -91,7 +91,7 @@ module _ (v : View) (f : List ℕ → List ℕ → Emit) (g t : List ℕ) where
         resolving-on h = record {
           inside = S.inside;
           going = writing-on (emit_of v f g m.what) (emitted (Left m.next)) next-mark h E;
-          wholes = whole-mark ∙ ap (λ z. x && all_whole z) one-step ∙ more (unrefused (emit_of v f g m.what)) (written-unrefused (number w₂.full) (emit_of v f g m.what) (w₂.room - w₂.at) ((rw h at E.emits).goes refl).says);
+          wholes = whole-mark ∙ ap (λ z. x && all_whole z) one-step ∙ more (unrefused (emit_of v f g m.what)) (written-unrefused (number w₂.full) (emit_of v f g m.what) (length w₂.out.now - w₂.at) ((rw h at E.emits).goes refl).says);
         }
           where
             more : (a : Bool) → a ≡ true → (x && (m.whole && a && all_whole (Left m.next))) ≡ (x && m.whole && all_whole (Left m.next))

@@ -1,18 +1,17 @@
 // Includes (document 01, section 4): the resolver, which calls itself with one level fewer for an included file.
 #![tactic(auto)]
 
-ghost use Rattle.std.specs.Prelude.{◌≡◌, true, []};
+ghost use Rattle.std.specs.Prelude.{[]};
 ghost use Rattle.rules.specs.Run.{run};
-ghost use Rattle.rules.specs.Bundle.{bundle_of};
 ghost use Rattle.rules.specs.Files.{view};
 ghost use Rattle.rules.specs.Includes.{inside_file, include_step};
-ghost use Rattle.rules.specs.Answer.{is_some};
 ghost use Rattle.bundle.specs.Find.{entries_of};
 ghost use Rattle.buffers.specs.Wrote.{Wrote};
 ghost use Rattle.marks.specs.Read.{emit_of};
 ghost use Rattle.includes.specs.Resolve.{Resolves};
 
 use buffers::writer::Writer;
+use bundle::Bundle;
 use marked_files::open_file;
 use marked_files::sources::put_source;
 use marks::next_mark;
@@ -22,23 +21,20 @@ use refusal::Refusal;
 // Puts what was read at a mark: a copied part, a source's block, or an included file, resolved, and a newline.
 #[cycle(resolve)]
 fn put_mark(
-    b: &[u8],
+    bundle: &Bundle<'_>,
     folder: &[u8],
     what: Reading<'_>,
     w: &mut Writer<'_>,
     levels: usize,
 ) -> Result<(), Refusal>
-    requires { is_some (bundle_of b.now) ≡ true }
-    ensures { Wrote (emit_of (view (entries_of b.now)) (inside_file (view (entries_of b.now)) levels) folder.now what.entry) w.old w.new result }
+    ensures { Wrote (emit_of (view (entries_of bundle.now)) (inside_file (view (entries_of bundle.now)) levels) folder.now what.entry) w.old w.new result }
 {
     match what {
         Reading::Copied(part) => w.put(part),
-        Reading::Source { path, language } => put_source(b, folder, path, language, w),
+        Reading::Source { path, language } => put_source(bundle, folder, path, language, w),
         Reading::Include(path) => {
-            let file = open_file(b, folder, path, levels)?;
-            let its_folder = &file.path.as_bytes()[..file.folder];
-            let its_text = &b[file.text.from..file.text.to];
-            resolve(b, its_folder, its_text, w, levels - 1)?;
+            let file = open_file(bundle, folder, path, levels)?;
+            resolve(bundle, file.folder(), file.text, w, levels - 1)?;
             w.put(b"\n")
         }
     }
@@ -47,14 +43,13 @@ fn put_mark(
 // Resolves a text of a folder, with so many levels left; is each mark of the text itself whole (section 6)?
 #[cycle(resolve)]
 pub fn resolve(
-    b: &[u8],
+    bundle: &Bundle<'_>,
     folder: &[u8],
     text: &[u8],
     w: &mut Writer<'_>,
     levels: usize,
 ) -> Result<bool, Refusal>
-    requires { is_some (bundle_of b.now) ≡ true }
-    ensures { Resolves (run (include_step (view (entries_of b.now)) (inside_file (view (entries_of b.now)) levels) folder.now) [] 0 text.now) w.old w.new result }
+    ensures { Resolves (run (include_step (view (entries_of bundle.now)) (inside_file (view (entries_of bundle.now)) levels) folder.now) [] 0 text.now) w.old w.new result }
 {
     let mut done: usize = 0;
     let mut whole = true;
@@ -66,7 +61,7 @@ pub fn resolve(
             return Ok(whole);
         };
         let read = reader.read(done, next.at, mark);
-        put_mark(b, folder, read.what, w, levels)?;
+        put_mark(bundle, folder, read.what, w, levels)?;
         done = read.next;
         whole = whole & read.whole;
     }

@@ -1,134 +1,104 @@
 -- `#import` and `#let`: the lines that bind.
-use Rattle.std.specs.Prelude.{◌≡◌, refl, List, true, false, ℕ, ◌≤◌, ◌<◌, length, take, drop}
-use Rattle.std.proofs.Common.{sym, ap, ◌∙◌, true≢false, arith}
-use Rattle.std.proofs.Math.Option.{none}
+use Rattle.std.specs.Borrow.{Bor}
+use Rattle.std.specs.Prelude.{◌≡◌, refl, List, true, ℕ, ◌≤◌, ◌<◌, length, drop, Result, Ok, Err, MatchResult}
+use Rattle.std.specs.Prelude.{Option as RustOption, Some, None}
+use Rattle.std.proofs.Math.Path.{subst}
+use Rattle.std.proofs.Common.{sym, ap, ◌∙◌}
+use Rattle.std.proofs.Math.Option.{none, some}
 use Rattle.rules.specs.Reader.{ret, ◌>>=◌, ◌>>◌, but, either, all}
-use Rattle.rules.specs.Bytes.{ascii, line_blank, word, name_byte, underscored}
-use Rattle.rules.specs.Sheet.{Value, text, Records, encode, sheet_length, good_records, Lookup, resolve, set}
+use Rattle.rules.specs.Bytes.{ascii, line_blank, word, name_byte, underscored, trim}
+use Rattle.rules.specs.Sheet.{Value, text, Records, sheet_length, good_value, Lookup, resolve, set}
 use Rattle.rules.specs.Expansion.{binds, import_step, let_value, let_step}
 use Rattle.rules.proofs.Laws.Parts.{let-good}
-use Rattle.rules.proofs.Laws.Sheet.{set-good}
-use Rattle.rules.proofs.Laws.Texts.{underscored-words}
+use Rattle.rules.proofs.Laws.Texts.{trim-all, underscored-words}
 use Rattle.scan.specs.Sets.{part, Spans, Skips}
 use Rattle.scan.specs.Stretches.{span-took, all-part}
-use Rattle.paths.specs.Paths.{Trims}
-use Rattle.scan.specs.declared.Range.{Range}
-use Rattle.sheet.specs.Order.{underscored_if}
-use Rattle.std.specs.Prelude.{Option as RustOption, Some, None}
-use Rattle.sheet.specs.Find.{IsSheet, Tells, Gives, gives_one}
-use Rattle.binding.specs.Write.{BindsTo, IsThere}
-use Rattle.binding.specs.Use.{Holds, bound-bytes, over-long}
+use Rattle.refusal.specs.declared.Refusal.{Refusal}
+use Rattle.refusal.specs.declared.Refusal.TheVariants.{Limit}
+use Rattle.sheet.specs.Records.{KeepsLayout, records_of, records-good}
+use Rattle.sheet.specs.Find.{Tells, Gives, gives_one}
 use Rattle.sheet.specs.declared.lookup.Found.{Found}
+use Rattle.binding.specs.declared.buffer.RecordBuffer.{RecordBuffer}
+use Rattle.binding.specs.declared.sheet_buffer.SheetBuffer.{SheetBuffer}
+use Rattle.binding.specs.Write.{IsThere}
+use Rattle.binding.specs.Buffer.{bytes_in, Binds}
+use Rattle.binding.specs.Sheets.{sheet_in, SameSheet, still-sheet, sheet-yes, sheet-no}
 use Rattle.let_steps.specs.declared.Line.{Line}
-use Rattle.let_steps.specs.declared.Let.{Let}
 
--- `#import` from `at` on leaves every sheet as it is, and reading goes on at r.
-pub record Imports (t : List ℕ) (at r : ℕ) : Type 0 where
-  pub on : at ≤ r
+-- `#import`, read from behind its mark, leaves every sheet as it is; r bytes are read.
+pub record Imports (t : List ℕ) (r : ℕ) : Type 0 where
   pub inside : r ≤ length t
-  pub does : (s : Records) → import_step s (drop at t) ≡ (binds s, drop r t)
+  pub does : (s : Records) → import_step s t ≡ (binds s, drop r t)
 
--- `#let` from `at` on binds the name of the line r: to its text, or to what that is looked up as.
-pub record IsLine (t : List ℕ) (at : ℕ) (r : Line) : Type 0 where
-  pub name-order : r.from ≤ r.to
-  pub name-inside : r.to ≤ length t
-  pub order : r.start ≤ r.end
-  pub text-inside : r.end ≤ length t
-  pub on : at ≤ r.next
-  pub inside : r.next ≤ length t
-  pub named : all name_byte (part t r.from r.to) ≡ true
-  pub does : (look : Lookup) (s : Records) → let_step look s (drop at t) ≡ (binds (set s (underscored (part t r.from r.to)) (let_value (part t r.start r.end) (look (part t r.start r.end)))), drop r.next t)
+-- `#let`, read from behind its mark, binds the name of the line r: to its text, or to what that is looked up as.
+pub record IsLine (t : List ℕ) (r : Line) : Type 0 where
+  pub inside : r.used ≤ length t
+  pub named : all name_byte r.name.now ≡ true
+  pub plain : all ascii t ≡ true → all ascii r.content.now ≡ true
+  pub does : (look : Lookup) (s : Records) → let_step look s t ≡ (binds (set s (underscored r.name.now) (let_value r.content.now (look r.content.now))), drop r.used t)
 
--- The name is bound in the first n bytes of b to the text v, or to what that is looked up as.
-pub record BindsLine (b : List ℕ) (n limit : ℕ) (name v c : List ℕ) (o : RustOption ℕ) : Type 0 where
-  pub size : length c ≡ length b
-  pub binds : (s : IsSheet (take n b)) → BindsTo b n limit (underscored name) (let_value v (resolve s.r v)) c o
+-- The name of the line r is bound in b, which leaves c.
+abbrev pub BindsLine : {A : Type 0} → Line → RecordBuffer → RecordBuffer → Result A Refusal → Type 0
+BindsLine r b c o = Binds b (underscored r.name.now) (let_value r.content.now (resolve (records_of (bytes_in b)) r.content.now)) c o
 
--- The step leaves the records `to`: c holds them, or they are too long.
-pub record LetLeaves (limit : ℕ) (t : List ℕ) (at : ℕ) (s : Records) (c : List ℕ) (r : Let) : Type 0 where
+-- `#let`, read from behind its mark, leaves the records `to` and the text `rest`: c holds the records; or they are too long, and that is told.
+pub record Lets (t : List ℕ) (b c : SheetBuffer) (r : Result ℕ Refusal) : Type 0 where
+  pub over : SameSheet b c
   pub to : Records
-  pub does : let_step (resolve s) s (drop at t) ≡ (binds to, drop r.at t)
-  pub goes : r.ok ≡ true → Holds to c r.len limit
-  pub stops : r.ok ≡ false → limit < sheet_length to
-
--- `#let` from `at` on, for the sheet in the first n bytes of b: reading goes on at r.at.
-pub record Lets (limit : ℕ) (t : List ℕ) (at : ℕ) (b : List ℕ) (n : ℕ) (c : List ℕ) (r : Let) : Type 0 where
-  pub size : length c ≡ length b
-  pub on : at ≤ r.at
-  pub inside : r.at ≤ length t
-  pub leaves : (s : IsSheet (take n b)) → LetLeaves limit t at s.r c r
+  pub rest : List ℕ
+  pub does : let_step (resolve (sheet_in b)) (sheet_in b) t ≡ (binds to, rest)
+  pub came : MatchResult r (λ k. (k ≤ length t) × (rest ≡ drop k t) × (sheet_in c ≡ to)) (λ e. (e ≡ Limit) × (b.records.now.limit < sheet_length to))
 
 -- LAWS. `#import`.
-pub imports : {t : List ℕ} {at j r : ℕ} → Spans (but "\n") t at j → Skips t j r → Imports t at r
+pub imports : {t : List ℕ} {j r : ℕ} → Spans (but "\n") t 0 j → Skips t j r → Imports t r
 unfolding import_step ret ◌>>=◌ ◌>>◌
-imports {t} {at} x k = record { on = omega (arith, x.on, k.on); inside = k.inside; does = λ s. rw (x.rest, k.rest) refl }
+imports x k = record { inside = k.inside; does = λ s. rw (x.rest, k.rest) refl }
 
 -- The line of a `#let`: its line blanks end at a, its name at b, the `=` and the line blanks around it at d, and the line at e.
-pub line-is : {t : List ℕ} {at a b d e r : ℕ} {v : Range} → Spans line_blank t at a → Spans name_byte t a b → Spans (either "=" line_blank) t b d → Spans (but "\n") t d e → Trims t d e v → Skips t e r →
-    IsLine t at (record { from = a; to = b; start = v.from; end = v.to; next = r })
+pub line-is : {t : List ℕ} {a b d e r : ℕ} {name content : Bor (List ℕ)} → Spans line_blank t 0 a → Spans name_byte t a b → Spans (either "=" line_blank) t b d → Spans (but "\n") t d e → name.now ≡ part t a b → content.now ≡ trim (part t d e) → Skips t e r →
+    IsLine t (record { name = name; content = content; used = r })
 unfolding let_step ret ◌>>=◌ ◌>>◌
-line-is {t} {a = a} x y z w m k = record {
-  name-order = y.on;
-  name-inside = y.inside;
-  order = m.order;
-  text-inside = omega (arith, m.ends, w.inside);
-  on = omega (arith, x.on, y.on, z.on, w.on, k.on);
+line-is {t} {a} {b} {d} {e} x y z w n m k = record {
   inside = k.inside;
-  named = ap (all name_byte) (sym y.took) ∙ span-took name_byte (drop a t);
-  does = λ look s. rw (x.rest, y.rest, y.took, z.rest, w.rest, w.took, k.rest, m.text) refl;
+  named = ap (all name_byte) (n ∙ sym y.took) ∙ span-took name_byte (drop a t);
+  plain = λ h. ap (all ascii) m ∙ trim-all ascii (part t d e) (all-part ascii d e t h);
+  does = λ look s. rw (x.rest, y.rest, y.took, z.rest, w.rest, w.took, k.rest, n, m) refl;
 }
 
--- BINDING.
-module _ (b : List ℕ) (n : ℕ) (v : List ℕ) (f : RustOption Found) (told : (r : Records) → take n b ≡ encode r → good_records r word 6 ≡ true → Gives (take n b) (resolve r (underscored_if false v)) f) where
-  gives_line : (s : IsSheet (take n b)) → Gives (take n b) (resolve s.r v) f
-  unfolding underscored_if
-  gives_line s = told s.r s.bytes s.good
+-- BINDING. By what the text v is looked up as.
+module _ (b : RecordBuffer) (v : List ℕ) {s : List ℕ} (z : s ≡ bytes_in b) (f : RustOption Found) (h : Gives s (resolve (records_of s) v) f) where
+  gives : Gives (bytes_in b) (resolve (records_of (bytes_in b)) v) f
+  gives = rw z at h
 
-  pub line-there : IsSheet (take n b) → {x : Found} → f ≡ Some x → IsThere (take n b) x
-  line-there s e = let w = gives_one (take n b) _ (gives_line s) e in record { v = w.0; tells = w.2 }
+  pub line-text : f ≡ None → {A : Type 0} {name : List ℕ} {c : RecordBuffer} {o : Result A Refusal} → Binds b name (text v) c o → Binds b name (let_value v (resolve (records_of (bytes_in b)) v)) c o
+  unfolding let_value Gives
+  line-text e w = let y : resolve (records_of (bytes_in b)) v ≡ none = subst (Gives (bytes_in b) (resolve (records_of (bytes_in b)) v)) e gives in rw y w
 
-  module _ {limit : ℕ} {name c : List ℕ} {o : RustOption ℕ} where
-    pub bind-missing : f ≡ None → BindsTo b n limit (underscored_if true name) (text v) c o → BindsLine b n limit name v c o
-    unfolding underscored_if let_value Gives
-    bind-missing e w = record {
-      size = w.long;
-      binds = λ s. let g : resolve s.r v ≡ none = rw e at (gives_line s) in rw g w;
-    }
+  module _ {x : Found} (e : f ≡ Some x) where
+    found : (y : Value) × (resolve (records_of (bytes_in b)) v ≡ some y) × Tells (bytes_in b) y x
+    found = gives_one (bytes_in b) _ gives e
 
-    pub bind-there : IsSheet (take n b) → {x : Found} → f ≡ Some x → ((y : Value) → Tells (take n b) y x → BindsTo b n limit (underscored_if true name) y c o) → BindsLine b n limit name v c o
-    unfolding underscored_if let_value
-    bind-there i h w = record {
-      size = (w _ (line-there i h).tells).long;
-      binds = λ s. let g = gives_one (take n b) (resolve s.r v) (gives_line s) h in rw g.1 (w g.0 g.2);
-    }
+    pub line-there : IsThere (bytes_in b) x
+    line-there = record { v = found.0; tells = found.2 }
 
--- THE STEP.
-module _ {t : List ℕ} {at : ℕ} {l : Line} (i : IsLine t at l) {b : List ℕ} {n limit : ℕ} {c : List ℕ} {o : RustOption ℕ} (w : BindsLine b n limit (part t l.from l.to) (part t l.start l.end) c o) where
-  pub let-over : {k : ℕ} → o ≡ None → Lets limit t at b n c (record { ok = false; at = l.next; len = k })
-  let-over e = record {
-    size = w.size;
-    on = i.on;
-    inside = i.inside;
-    leaves = λ s. record { to = _; does = i.does (resolve s.r) s.r; goes = λ z. absurd (true≢false (sym z)); stops = λ z. over-long s.r s.bytes (rw e at (w.binds s)) };
-  }
+    pub line-found : {A : Type 0} {name : List ℕ} {c : RecordBuffer} {o : Result A Refusal} → ((y : Value) → Tells (bytes_in b) y x → Binds b name y c o) → Binds b name (let_value v (resolve (records_of (bytes_in b)) v)) c o
+    unfolding let_value
+    line-found w = rw found.1 (w found.0 found.2)
 
-  pub let-bound : {k : ℕ} → all ascii t ≡ true → o ≡ Some k → Lets limit t at b n c (record { ok = true; at = l.next; len = k })
-  let-bound a e = record {
-    size = w.size;
-    on = i.on;
-    inside = i.inside;
-    leaves = λ s.
-        let v = part t l.start l.end in
-        let y = bound-bytes s.r s.bytes (rw e at (w.binds s)) in
-        record {
-          to = _;
-          does = i.does (resolve s.r) s.r;
-          goes = λ z. record {
-            bytes = y.1;
-            long = y.2;
-            fits = y.0;
-            good = set-good s.r word 6 _ _ s.good (underscored-words _ i.named) (let-good s.r v (resolve s.r v) refl s.good (all-part ascii l.start l.end t a));
-          };
-          stops = λ z. absurd (true≢false z);
-        };
-  }
+-- THE STEP. The line l is bound to a good value.
+module _ {t : List ℕ} {l : Line} (i : IsLine t l) (a : all ascii t ≡ true) (b : SheetBuffer) where
+  named : all word (underscored l.name.now) ≡ true
+  named = underscored-words _ i.named
+
+  value-good : good_value (let_value l.content.now (resolve (sheet_in b) l.content.now)) 6 ≡ true
+  value-good = let-good (sheet_in b) l.content.now (resolve (sheet_in b) l.content.now) refl (records-good (bytes_in b.records.now)) (i.plain a)
+
+  pub let-sheet : {w : RecordBuffer} {q : Result (Unit {0}) Refusal} → BindsLine l b.records.now w q → KeepsLayout (bytes_in w)
+  let-sheet x = still-sheet b x named value-good
+
+  module _ (c : SheetBuffer) (m : c.records.ghost_name ≡ b.records.ghost_name) {q : Result (Unit {0}) Refusal} (x : BindsLine l b.records.now c.records.now q) where
+    pub let-over : {k : Refusal} → q ≡ Err k → Lets t b c (Err k)
+    let-over e = record { over = record { same = m; over = x.over }; to = _; rest = _; does = i.does (resolve (sheet_in b)) (sheet_in b); came = sheet-no b x named value-good e }
+
+    pub let-bound : {u : Unit {0}} → q ≡ Ok u → Lets t b c (Ok l.used)
+    let-bound e = record { over = record { same = m; over = x.over }; to = _; rest = _; does = i.does (resolve (sheet_in b)) (sheet_in b); came = (i.inside, refl, (sheet-yes b x named value-good e).0) }

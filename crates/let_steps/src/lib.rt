@@ -1,96 +1,73 @@
 // The steps `#import` and `#let` of the expansion (document 01, section 5): each drops its line, and writes nothing. Each reads from behind its mark.
 #![tactic(auto)]
 
-ghost use Rattle.std.specs.Prelude.{◌≡◌, true, ◌≤◌, length, take};
+ghost use Rattle.std.specs.Prelude.{◌≡◌, true};
 ghost use Rattle.rules.specs.Reader.{all};
 ghost use Rattle.rules.specs.Bytes.{ascii};
-ghost use Rattle.sheet.specs.Find.{IsSheet};
-ghost use Rattle.binding.specs.Write.{Bindable};
+ghost use Rattle.sheet.specs.Records.{KeepsLayout};
+ghost use Rattle.binding.specs.Buffer.{bytes_in};
 ghost use Rattle.let_steps.specs.Let.{Imports, IsLine, BindsLine, Lets};
 
+use binding::buffer::RecordBuffer;
+use binding::sheet_buffer::SheetBuffer;
 use paths::trim;
+use refusal::Refusal;
 use scan::Set;
+use sheet::{Name, Sheet};
 
-// `#import`: drops the line. Where reading goes on.
-pub fn import_step(text: &[u8], at: usize) -> usize
-    requires { at ≤ length text.now }
-    ensures { Imports text.now at result }
+// `#import`: drops the line. How many bytes are read.
+pub fn import_step(text: &[u8]) -> usize
+    ensures { Imports text.now result }
 {
-    let end = scan::find(text, at, b'\n');
+    let end = scan::find(text, 0, b'\n');
     scan::skip(text, end)
 }
 
-// The line of a `#let`: where its name stands, where the trimmed text behind it stands, and where reading goes on.
+// The line of a `#let`: its name, the trimmed text behind it, and how many bytes are read.
 #[derive(Clone, Copy)]
-pub struct Line {
-    pub from: usize,
-    pub to: usize,
-    pub start: usize,
-    pub end: usize,
-    pub next: usize,
+pub struct Line<'a> {
+    pub name: &'a [u8],
+    pub content: &'a [u8],
+    pub used: usize,
 }
 
 // Reads the line of a `#let`.
-fn let_line(text: &[u8], at: usize) -> Line
-    requires { at ≤ length text.now }
-    ensures { IsLine text.now at result }
+fn let_line<'a>(text: &'a [u8]) -> Line<'a>
+    ensures { IsLine text.now result }
 {
-    let from = scan::span(text, at, Set::LineBlank);
+    let from = scan::span(text, 0, Set::LineBlank);
     let to = scan::span(text, from, Set::Name);
     let behind = scan::span(text, to, Set::EqualsOrLineBlank);
     let newline = scan::find(text, behind, b'\n');
-    let value = trim(text, behind, newline);
-    let next = scan::skip(text, newline);
+    let rest = &text[behind..newline];
+    let trimmed = trim(rest);
     Line {
-        from: from,
-        to: to,
-        start: value.from,
-        end: value.to,
-        next: next,
+        name: &text[from..to],
+        content: trimmed,
+        used: scan::skip(text, newline),
     }
 }
 
-// Binds a name, each `-` made `_`: to the value that the text, unchanged, is looked up as, or to the text itself.
-fn bind_line(left: &mut [u8], n: usize, limit: usize, name: &[u8], content: &[u8]) -> Option<usize>
-    requires { Bindable left.old n limit × IsSheet (take n left.old) }
-    ensures { BindsLine left.old n limit name.now content.now left.new result }
+// Binds the name of a line, each `-` made `_`: to the value that the text behind it is looked up as, or to that text itself.
+fn bind_line(line: Line<'_>, left: &mut RecordBuffer<'_>) -> Result<(), Refusal>
+    requires { KeepsLayout (bytes_in left.old) }
+    ensures { BindsLine line.entry left.old left.new result }
 {
-    match sheet::lookup::lookup(&left[..n], content, false) {
-        None => binding::bind_text(left, n, limit, name, true, content),
-        Some(found) => binding::bind_found(left, n, limit, name, true, found),
+    let value = Sheet::new(left.records()).lookup(Name::Plain(line.content));
+    match value {
+        None => left.bind_text(Name::Reference(line.name), line.content),
+        Some(found) => left.bind_found(Name::Reference(line.name), found),
     }
 }
 
-// What a `#let` came to: has the sheet stayed within its limit, where reading goes on, and the sheet's length.
-#[derive(Clone, Copy)]
-pub struct Let {
-    pub ok: bool,
-    pub at: usize,
-    pub len: usize,
-}
-
-// `#let`: binds the name of the line in the sheet, the first n bytes of `left`.
-pub fn let_step(text: &[u8], at: usize, left: &mut [u8], n: usize, limit: usize) -> Let
-    requires { (at ≤ length text.now) × (all ascii text.now ≡ true) × (n ≤ length left.old) × (limit ≤ length left.old) × (limit ≤ 65535) × IsSheet (take n left.old) }
-    ensures { Lets limit text.now at left.old n left.new result }
+// `#let`: binds the name of the line in the sheet, unless that would be over its limit. How many bytes are read.
+pub fn let_step(text: &[u8], left: &mut SheetBuffer<'_, '_>) -> Result<usize, Refusal>
+    requires { all ascii text.now ≡ true }
+    ensures { Lets text.now left.old left.new result }
 {
-    let line = let_line(text, at);
-    let from = line.from;
-    let to = line.to;
-    let start = line.start;
-    let end = line.end;
-    let next = line.next;
-    let bound = bind_line(left, n, limit, &text[from..to], &text[start..end]);
-    match bound {
-        None => Let {
-            ok: false,
-            at: next,
-            len: n,
-        },
-        Some(len) => Let {
-            ok: true,
-            at: next,
-            len: len,
-        },
+    let line = let_line(text);
+    match bind_line(line, left.records) {
+        Err(over) => Err(over),
+        Ok(()) => Ok(line.used),
     }
 }

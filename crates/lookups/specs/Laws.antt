@@ -1,69 +1,82 @@
 -- Laws of the lookup call.
-use Rattle.std.specs.Prelude.{◌≡◌, refl, List, true, false, ℕ, ◌≤◌, ◌<◌, length, take, get_or}
-use Rattle.std.proofs.Common.{sym, ap, ◌∙◌, arith, le-leb}
-use Rattle.std.proofs.Math.Nat.{sub-zero}
-use Rattle.std.proofs.lemmas.List.Edits.{sets}
-use Rattle.std.proofs.Math.Seq.{length-sets}
-use Rattle.std.proofs.lemmas.Bool.{lt-leb}
-use Rattle.rules.specs.Answer.{◌>>=◌, ◌>>◌, check, or_refuse, is_some}
+use Rattle.std.specs.Prelude.{Option, Some, None, ◌≡◌, List, Bool, true, false, ℕ, leb, length, take, Ok, Err}
+use Rattle.std.proofs.Math.Option.{Option as MathOption}
+use Rattle.std.proofs.Math.Path.{refl, sym, ap}
+use Rattle.std.proofs.Common.{◌∙◌, append-nil, arith, length-take-le}
+use Rattle.rules.specs.Answer.{Answer, refused, accepted, ◌>>=◌, ◌>>◌, check, or_refuse, is_some}
 use Rattle.rules.specs.Reader.{all}
-use Rattle.rules.specs.Bytes.{ascii, word}
-use Rattle.rules.specs.Sheet.{Records, encode, good_records, sheet_of, resolve, text_of}
-use Rattle.rules.specs.Calls.{zeros, padded, looked_answer, resolve_result, resolve_of}
+use Rattle.rules.specs.Bytes.{ascii}
+use Rattle.rules.specs.Run.{put, ok, write}
+use Rattle.rules.specs.Sheet.{Value, sheet_of, resolve, text_of}
+use Rattle.rules.specs.Calls.{resolve_result}
+use Rattle.rules.proofs.Laws.Answer.{not-both, accepted-same, check_inv}
 use Rattle.rules.proofs.Laws.Bool.{false-some}
-use Rattle.std.specs.Prelude.{Option as RustOption}
+use Rattle.refusal.specs.declared.Refusal.{Refusal}
+use Rattle.refusal.specs.declared.Refusal.TheVariants.{Sheet, Byte}
+use Rattle.refusal.specs.Numbers.{number}
 use Rattle.sheet.specs.declared.lookup.Found.{Found}
-use Rattle.sheet.specs.Use.{known}
-use Rattle.sheet.specs.Order.{underscored_if}
-use Rattle.sheet.specs.Find.{Gives, found_kind, gives-kind}
-use Rattle.buffers.specs.Laws.{stored-first}
-use Rattle.lookups.specs.declared.Resolved.{Resolved}
-use Rattle.lookups.specs.Text.{Gave, Resolves}
+use Rattle.sheet.specs.declared.lookup.Found.TheVariants.{Nothing, Text, Dictionary}
+use Rattle.sheet.specs.Records.{records_of, sheet-some}
+use Rattle.sheet.specs.Find.{Gives, Tells, gives-kind}
+use Rattle.buffers.specs.Wrote.{Stands, first_bytes}
+use Rattle.lookups.specs.Text.{Resolves, text_len}
 
--- REFUSED: the buffer is left as it is.
-empty : (m : ℕ) (c : List ℕ) → zeros m ≡ padded m (take 0 c)
-unfolding padded
-empty m c = ap zeros (simp sub-zero refl)
+refused-same : {A : Type 0} {j k : ℕ} → ◌≡◌ {A = Answer A} (refused j) (refused k) → j ≡ k
+refused-same h = cc
 
-refuses : (s p b : List ℕ) (k : ℕ) → resolve_of s p (length b) ≡ record { number = k; kind = 0; len = 0; out = zeros (length b) } → Resolves s p b b (record { number = k; kind = 0; len = 0 })
-refuses s p b k e = record { size = refl; fits = omega arith; is = e ∙ λ i. record { number = k; kind = 0; len = 0; out = empty (length b) b i } }
+-- How long the text of what was found is.
+gives-length : (s : List ℕ) (x : MathOption Value) (f : Option Found) → Gives s x f → length (text_of x) ≡ text_len f
+unfolding Gives Tells text_of text_len
+gives-length s x None g = rw g refl
+gives-length s x (Some Nothing) g = rw (g.1, g.2) refl
+gives-length s x (Some (Text p)) g = rw (g.1, g.2.1) (omega (arith, g.2.2.ends))
+gives-length s x (Some (Dictionary p n)) g = rw (g.1, g.2.1) refl
 
-pub resolve-three : (s p b : List ℕ) → is_some (sheet_of s) ≡ false → Resolves s p b b (record { number = 3; kind = 0; len = 0 })
-unfolding resolve_of resolve_result looked_answer or_refuse ◌>>=◌
-resolve-three s p b h = refuses s p b 3 (rw (false-some (sheet_of s) h))
+-- REFUSED before the lookup: 3, then 6.
+pub resolve-three : (s p b : List ℕ) → is_some (sheet_of s) ≡ false → Resolves s p b b (Err Sheet)
+unfolding resolve_result or_refuse ◌>>=◌
+resolve-three s p b h = record { size = refl; fits = tt; is = rw (false-some (sheet_of s) h) refl }
 
-pub resolve-six : (s p b : List ℕ) → ((i : ℕ) → get_or s i 0 < 256) → is_some (sheet_of s) ≡ true → all ascii p ≡ false → Resolves s p b b (record { number = 6; kind = 0; len = 0 })
-unfolding resolve_of resolve_result looked_answer or_refuse check ◌>>=◌ ◌>>◌
-resolve-six s p b bytes h a = refuses s p b 6 (rw ((known s bytes h).of, a))
+module _ (s p b : List ℕ) (k : is_some (sheet_of s) ≡ true) where
+  pub resolve-six : all ascii p ≡ false → Resolves s p b b (Err Byte)
+  unfolding resolve_result or_refuse check ◌>>=◌ ◌>>◌
+  resolve-six a = record { size = refl; fits = tt; is = rw (sheet-some s k, a) refl }
 
--- LOOKED UP.
-module _ (s p : List ℕ) (bytes : (i : ℕ) → get_or s i 0 < 256) (h : is_some (sheet_of s) ≡ true) (f : RustOption Found)
-    (told : (r : Records) → s ≡ encode r → good_records r word 6 ≡ true → Gives s (resolve r (underscored_if false p)) f) where
-  pub resolve-gives : Gives s (resolve (known s bytes h).r p) f
-  unfolding underscored_if
-  resolve-gives = let x = known s bytes h in told x.r x.bytes x.good
+  -- LOOKED UP: then 11, if there is no room for its text.
+  module _ (a : all ascii p ≡ true) where
+    looked : (n : ℕ) → resolve_result s p n ≡ (check 11 (leb (length (text_of (resolve (records_of s) p))) n) >> accepted (resolve (records_of s) p))
+    unfolding resolve_result or_refuse check ◌>>=◌ ◌>>◌
+    looked n = rw (sheet-some s k, a) refl
 
-  pub resolve-gave : {k : ℕ} {t b c : List ℕ} {r : Resolved} → all ascii p ≡ true → k ≡ found_kind f → t ≡ text_of (resolve (known s bytes h).r p) → Gave k t b c r → Resolves s p b c r
-  unfolding resolve_of resolve_result or_refuse check ◌>>=◌ ◌>>◌
-  resolve-gave a e q g =
-      let x = known s bytes h in
-      record { size = g.size; fits = g.fits; is = rw (x.of, a) (g.is (resolve x.r p) (e ∙ gives-kind s _ f resolve-gives) q) }
+    -- Its text t is put at the start of the buffer.
+    module _ {t : List ℕ} (q : t ≡ text_of (resolve (records_of s) p)) where
+      put-text : write 11 (length b) (put t ok) ≡ (check 11 (leb (length t) (length b)) >> accepted t)
+      unfolding write ◌>>=◌
+      put-text = ap (λ u. check 11 (leb (length t) (length b)) >> accepted u) (append-nil t)
 
--- A text at the start of a buffer, or 11.
-pub gave_eleven : (k : ℕ) (t b : List ℕ) → length b < length t → Gave k t b b (record { number = 11; kind = 0; len = 0 })
-unfolding looked_answer check ◌>>◌
-gave_eleven k t b h = record {
-  size = refl;
-  fits = omega arith;
-  is = λ x e q. rw (lt-leb (length (text_of x)) (length b) (omega (arith, ap length q))) (λ i. record { number = 11; kind = 0; len = 0; out = empty (length b) b i });
-}
+      looked-here : resolve_result s p (length b) ≡ (check 11 (leb (length t) (length b)) >> accepted (resolve (records_of s) p))
+      looked-here = looked (length b) ∙ rw (sym q) refl
 
-pub gave-text : (k : ℕ) (t b c : List ℕ) → length t ≤ length b → c ≡ sets b 0 t → Gave k t b c (record { number = 0; kind = k; len = length t })
-unfolding looked_answer check ◌>>◌
-gave-text k t b c h s =
-    let f : take (length t) c ≡ t = ap (take (length t)) s ∙ stored-first b t (omega arith) in
-    record {
-      size = ap length s ∙ length-sets b 0 t;
-      fits = h;
-      is = λ x e q. rw (le-leb (length (text_of x)) (length b) (omega (arith, ap length q))) (λ i. record { number = 0; kind = sym e i; len = length (sym q i); out = padded (length b) (sym (f ∙ q) i) });
-    }
+      pub resolve_eleven : {c : List ℕ} {k : Refusal} → Stands 11 (length b) (put t ok) c (Err k) → Resolves s p b c (Err k)
+      unfolding first_bytes check ◌>>◌
+      resolve_eleven {k = k} S = record { size = S.size; fits = tt; is = looked-here ∙ at (leb (length t) (length b)) (sym put-text ∙ S.is) }
+        where
+          at : (d : Bool) → ◌≡◌ {A = Answer (List ℕ)} (check 11 d >> accepted t) (refused (number k)) → (check 11 d >> accepted (resolve (records_of s) p)) ≡ refused (number k)
+          at true h = absurd (not-both (sym h))
+          at false h = ap refused (refused-same h)
+
+      pub resolve_text : {c : List ℕ} {n : ℕ} → Stands 11 (length b) (put t ok) c (Ok n) → (f : Option Found) → Gives s (resolve (records_of s) p) f → Resolves s p b c (Ok f)
+      unfolding first_bytes
+      resolve_text {c} {n} S f g =
+          let h = check_inv 11 (leb (length t) (length b)) (accepted t) (sym put-text ∙ S.is) in
+          let stands : take n c ≡ t = sym (accepted-same h.1) in
+          let long : n ≡ text_len f = sym (length-take-le n c (omega (arith, S.size, S.fits))) ∙ ap length (stands ∙ q) ∙ gives-length s _ f g in
+          record {
+            size = S.size;
+            fits = omega (arith, S.fits, long);
+            is = (
+              resolve (records_of s) p,
+              looked-here ∙ rw h.0 (unfold check ◌>>◌ in refl),
+              record { kind = gives-kind s _ f g; text = ap (λ m. take m c) (sym long) ∙ stands ∙ q },
+            );
+          }

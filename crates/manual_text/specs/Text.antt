@@ -16,6 +16,7 @@ use Rattle.rules.proofs.Laws.Answer.{assoc}
 use Rattle.rules.proofs.Laws.Calls.{number_form, parse_definitions_numbered, parse_definitions_holds, pass_holds, find_known}
 use Rattle.rules.proofs.Laws.Found.{content_from, content-refused, content-absent, content-there, found-content, found_inside}
 use Rattle.rules.proofs.Laws.Manual.{manual-holds}
+use Rattle.buffers.specs.Wrote.{first_bytes}
 use Rattle.refusals.specs.Text.{Leaves}
 use Rattle.rules.proofs.Laws.Parts.{result_numbered}
 use Rattle.refusal.specs.declared.Refusal.{Refusal}
@@ -26,15 +27,10 @@ use Rattle.refusal.specs.Numbers.{number}
 unfoldable pub main_text : List ℕ → List ℕ → Answer (List ℕ)
 main_text b s = or_refuse 2 (bundle_of b) >>= λ es. fetch (view es) (bytes "main.typ") >>= λ t. output_from (pass_of (setting b) s t)
 
--- What is built: so many bytes at the start of a buffer, or the refusal.
-unfoldable pub text_of : List ℕ → Result ℕ Refusal → Answer (List ℕ)
-text_of o (Ok n) = accepted (take n o)
-text_of o (Err refusal) = refused (number refusal)
-
 -- a is built: its text stands at the start of the buffer, and zero behind it; or its refusal is answered.
 pub record Builds (a : Answer (List ℕ)) (out out₂ : List ℕ) (r : Result ℕ Refusal) : Type 0 where
   pub size : length out₂ ≡ length out
-  pub says : a ≡ text_of out₂ r
+  pub says : a ≡ first_bytes out₂ r
   pub fits : IfOk r (λ n. n ≤ length out)
   pub behind : IfOk r (λ n. drop n out₂ ≡ zeros (length out₂ - n))
 
@@ -63,7 +59,7 @@ answered-refused (suc k) t r h = ap refused h
 
 -- Nothing is built.
 pub builds-refused : {a : Answer (List ℕ)} {out out₂ : List ℕ} {e : Refusal} → length out₂ ≡ length out → a ≡ refused (number e) → Builds a out out₂ (Err e)
-unfolding text_of
+unfolding first_bytes
 builds-refused z h = record { size = z; says = h; fits = tt; behind = tt }
 
 pub builds-same : {a c : Answer (List ℕ)} {out out₂ : List ℕ} {r : Result ℕ Refusal} → a ≡ c → Builds c out out₂ r → Builds a out out₂ r
@@ -94,7 +90,7 @@ module _ (b t s : List ℕ) {m n l : ℕ} (o : List ℕ) {m₂ o₂ l₂ : List 
   pass_refused r h = builds-refused (pass_output.size ∙ e₄) (pass_says ∙ answered-refused k _ r h)
 
   pub pass_builds : k ≡ 0 → Builds (output_from (pass_of (setting b) s t)) o o₂ (Ok x)
-  unfolding text_of
+  unfolding first_bytes
   pass_builds h = record {
     size = pass_output.size ∙ e₄;
     says = pass_says ∙ answered-accepted k _ h;
@@ -173,14 +169,14 @@ padded-take o n h e = ap (λ i. take n o ++ zeros (length o - i)) (length-take-l
 
 module _ (b : List ℕ) {o o₂ : List ℕ} (l : 32768 ≡ length o) where
   pub manual-output : {n : ℕ} → Builds (built b) o o₂ (Ok n) → manual_of b ≡ record { len = n; out = o₂ }
-  unfolding manual shown text_of
+  unfolding manual shown first_bytes
   manual-output {n} B =
       let f : n ≤ length o = B.fits in
       let g : n ≤ length o₂ = omega (arith, B.size) in
       answers b o₂ (l ∙ sym B.size) g (sym (ap shown B.says)) (padded-take o₂ n g B.behind)
 
   pub manual-refused : {r : Refusal} → Builds (built b) o o₂ (Err r) → {o₃ : List ℕ} {n : ℕ} → Leaves (shown (refused (number r))) o₂ o₃ n → manual_of b ≡ record { len = n; out = o₃ }
-  unfolding manual manual_of text_of
+  unfolding manual manual_of first_bytes
   manual-refused {r} B s =
       let e : manual b ≡ shown (refused (number r)) = ap shown B.says in
       let i = ap length e ∙ s.long in

@@ -1,5 +1,5 @@
 -- Included files.
-use Rattle.std.specs.Prelude.{◌≡◌, refl, List, [], Bool, true, false, ℕ, suc, ◌-◌, ◌≤◌, ◌<◌, length, take, Result, Ok, Err}
+use Rattle.std.specs.Prelude.{◌≡◌, refl, List, [], Bool, true, false, ℕ, suc, ◌-◌, ◌<◌, length, Result, Ok, Err}
 use Rattle.std.proofs.Common.{sym, ◌∙◌}
 use Rattle.std.proofs.Math.Path.{ap}
 use native.Mathlib.Omega.{arith}
@@ -9,25 +9,23 @@ use Rattle.rules.specs.Run.{ok, put, fail, and_then, run, emitted}
 use Rattle.rules.specs.Bytes.{ascii, parent}
 use Rattle.rules.specs.Files.{View, fetch}
 use Rattle.rules.specs.Includes.{included, inside_file, include_step}
-use Rattle.scan.specs.Sets.{part}
 use Rattle.paths.specs.Joined.{text}
 use Rattle.bundle.specs.Open.{long-fetch}
-use Rattle.bundle_entries.specs.Entries.{Within}
+use Rattle.paths.specs.declared.path.Path.{Path}
+use Rattle.std.specs.Borrow.{Bor}
 use Rattle.refusal.specs.declared.Refusal.{Refusal}
 use Rattle.refusal.specs.Numbers.{number}
-use Rattle.marked_files.specs.declared.File.{File}
+use Rattle.bundle.specs.declared.File.{File}
 
--- An included file with the path p is r: what it comes to, in any folder g, is its text resolved with one level fewer in its own folder, then a newline.
-pub record IsFile (v : View) (levels : ℕ) (b p : List ℕ) (r : File) : Type 0 where
-  pub within : Within b r.text
-  pub short : r.folder ≤ length (text r.path)
+-- An included file with the path p is r: what it comes to, in any folder g, is its text resolved with one level fewer in its own folder f, then a newline.
+pub record IsFile (v : View) (levels : ℕ) (p : List ℕ) (r : File) : Type 0 where
   pub left : 0 < levels
-  pub goes : (g : List ℕ) → included v (inside_file v levels) g p (fetch v p) ≡ and_then (emitted (run (include_step v (inside_file v (levels - 1)) (take r.folder (text r.path))) [] 0 (part b r.text.from r.text.to))) (put (bytes "\n") ok)
+  pub goes : (g : List ℕ) {f : List ℕ} → f ≡ parent (text r.path) → included v (inside_file v levels) g p (fetch v p) ≡ and_then (emitted (run (include_step v (inside_file v (levels - 1)) f) [] 0 r.text.now)) (put (bytes "\n") ok)
 
 -- It is opened, or refused.
-abbrev pub OpensFile : View → ℕ → List ℕ → List ℕ → Result File Refusal → Type 0
-OpensFile v levels b p (Ok r) = IsFile v levels b p r
-OpensFile v levels b p (Err k) = (g : List ℕ) → included v (inside_file v levels) g p (fetch v p) ≡ fail (number k)
+abbrev pub OpensFile : View → ℕ → List ℕ → Result File Refusal → Type 0
+OpensFile v levels p (Ok r) = IsFile v levels p r
+OpensFile v levels p (Err k) = (g : List ℕ) → included v (inside_file v levels) g p (fetch v p) ≡ fail (number k)
 
 -- REFUSED before its levels are asked.
 module _ (v : View) (levels : ℕ) (p : List ℕ) where
@@ -51,8 +49,8 @@ module _ (v : View) (levels : ℕ) (p : List ℕ) where
       pub file-six : c ≡ false → (g : List ℕ) → included v (inside_file v levels) g p (fetch v p) ≡ fail 6
       file-six h = let level : levels ≡ suc (levels - 1) = omega arith in stopped 6 (ap (λ x. inside_file v x (parent p) t) level ∙ (unfold inside_file in (rw (sym a ∙ h, inside_file) refl)))
 
-      pub file_goes : c ≡ true → {f : List ℕ} → f ≡ parent p → (g : List ℕ) → included v (inside_file v levels) g p (fetch v p) ≡ and_then (emitted (run (include_step v (inside_file v (levels - 1)) f) [] 0 t)) (put (bytes "\n") ok)
-      file_goes h {f} x g = unfold included in (rw (e, inner, x) refl)
+      pub file_goes : c ≡ true → {q : Path} → text q ≡ p → {l : Bor (List ℕ)} → l.now ≡ t → 0 < levels → IsFile v levels p (record { path = q; text = l })
+      file_goes h {q} x {l} z y = record { left = y; goes = λ g o. unfold included in (rw (e, inner, o, x, z) refl) }
         where
           inner : inside_file v levels (parent p) t ≡ emitted (run (include_step v (inside_file v (levels - 1)) (parent p)) [] 0 t)
           inner = let level : levels ≡ suc (levels - 1) = omega arith in ap (λ x. inside_file v x (parent p) t) level ∙ (unfold inside_file in (rw (sym a ∙ h, inside_file) refl))

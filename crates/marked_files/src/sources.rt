@@ -1,30 +1,27 @@
 // Sources: the file that `#source-include` names is opened, and put as a block.
-ghost use Rattle.std.specs.Prelude.{◌≡◌, true, ◌++◌};
+ghost use Rattle.std.specs.Prelude.{◌++◌};
 ghost use Rattle.rules.specs.Reader.{bytes};
 ghost use Rattle.rules.specs.Bytes.{join};
-ghost use Rattle.rules.specs.Bundle.{bundle_of};
 ghost use Rattle.rules.specs.Files.{view, opened, project_root};
 ghost use Rattle.rules.specs.Includes.{last_newline, fenced};
 ghost use Rattle.buffers.specs.Wrote.{Wrote};
 ghost use Rattle.rules.specs.Run.{put, ok};
-ghost use Rattle.rules.specs.Answer.{is_some};
 ghost use Rattle.bundle.specs.Find.{entries_of};
-ghost use Rattle.bundle.specs.Open.{Opens};
+ghost use Rattle.bundle.specs.Open.{Answers};
 ghost use Rattle.marked_files.specs.Sources.{block_text};
 
 use buffers::writer::Writer;
-use paths::{Range, join};
+use bundle::Bundle;
+use paths::join;
 use refusal::Refusal;
 
 // Opens a source, from the nearest folder upward that has `CITATION.cff`: 4, 5, 6.
-fn open_source(b: &[u8], folder: &[u8], path: &[u8]) -> Result<Range, Refusal>
-    requires { is_some (bundle_of b.now) ≡ true }
-    ensures { Opens b.now (opened (view (entries_of b.now)) (join (project_root (view (entries_of b.now)) folder.now) path.now)) result }
+fn open_source<'a>(bundle: &Bundle<'a>, folder: &[u8], path: &[u8]) -> Result<&'a [u8], Refusal>
+    ensures { Answers (opened (view (entries_of bundle.now)) (join (project_root (view (entries_of bundle.now)) folder.now) path.now)) result }
 {
-    let root = bundle::project_root(b, folder);
-    match join(&folder[..root], path) {
+    match join(bundle.project_root(folder), path) {
         None => Err(Refusal::Path),
-        Some(joined) => bundle::open_text(b, joined.as_bytes()),
+        Some(joined) => bundle.open_text(joined.as_bytes()),
     }
 }
 
@@ -52,15 +49,14 @@ fn put_block(lang: &[u8], content: &[u8], w: &mut Writer<'_>) -> Result<(), Refu
 
 // Opens a source and puts its block.
 pub fn put_source(
-    b: &[u8],
+    bundle: &Bundle<'_>,
     folder: &[u8],
     path: &[u8],
     lang: &[u8],
     w: &mut Writer<'_>,
 ) -> Result<(), Refusal>
-    requires { is_some (bundle_of b.now) ≡ true }
-    ensures { Wrote (fenced lang.now (opened (view (entries_of b.now)) (join (project_root (view (entries_of b.now)) folder.now) path.now))) w.old w.new result }
+    ensures { Wrote (fenced lang.now (opened (view (entries_of bundle.now)) (join (project_root (view (entries_of bundle.now)) folder.now) path.now))) w.old w.new result }
 {
-    let content = open_source(b, folder, path)?;
-    put_block(lang, &b[content.from..content.to], w)
+    let content = open_source(bundle, folder, path)?;
+    put_block(lang, content, w)
 }

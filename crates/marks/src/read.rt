@@ -9,6 +9,7 @@ ghost use Rattle.marks.specs.Read.{Copies, Reads, Behinds, HasPath};
 
 use crate::ahead::{Quoted, Quotes, Search};
 use crate::{Mark, commented};
+use paths::trim;
 use scan::Set;
 use std::marker::Model;
 
@@ -26,14 +27,6 @@ pub struct Read<'a> {
     pub what: Reading<'a>,
     pub whole: bool,
     pub next: usize,
-}
-
-// A text without the blanks at both ends.
-fn trimmed<'a>(text: &'a [u8]) -> &'a [u8]
-    ensures { result.now ≡ trim text.now }
-{
-    let inner = paths::trim(text, 0, text.len());
-    &text[inner.from..inner.to]
 }
 
 // A mark that is copied.
@@ -93,7 +86,7 @@ impl<'a> Reader<'a> {
     {
         match self.path.next(behind) {
             Some(path) => Read {
-                what: Reading::Include(trimmed(path.text)),
+                what: Reading::Include(trim(path.text)),
                 whole: true,
                 next: path.next,
             },
@@ -133,7 +126,7 @@ impl<'a> Reader<'a> {
         match self.language.next(path.next) {
             Some(language) => Read {
                 what: Reading::Source {
-                    path: trimmed(path.text),
+                    path: trim(path.text),
                     language: language.text,
                 },
                 whole: end.whole,
@@ -141,7 +134,7 @@ impl<'a> Reader<'a> {
             },
             None => Read {
                 what: Reading::Source {
-                    path: trimmed(path.text),
+                    path: trim(path.text),
                     language: b"",
                 },
                 whole: false,

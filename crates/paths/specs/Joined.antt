@@ -1,5 +1,5 @@
 -- Joining a path to a folder.
-use Rattle.std.specs.Prelude.{◌≡◌, refl, List, [], ◌∷◌, ◌++◌, ℕ, ◌+◌, ◌-◌, ◌≤◌, ◌<◌, Option, None, Some, length, take}
+use Rattle.std.specs.Prelude.{◌≡◌, refl, List, [], ◌∷◌, ◌++◌, ℕ, ◌+◌, ◌≤◌, ◌<◌, Option, None, Some, length, take}
 use Rattle.std.proofs.Common.{ap, append_assoc, length-append, length-take-le, arith}
 use Rattle.rules.specs.Reader.{empty}
 use Rattle.rules.specs.Bytes.{join}
@@ -24,9 +24,6 @@ text-length p = length-take-le p.len p.bytes (omega (arith, p.fits, p.size))
 
 pub text-short : (p : Path) → length (text p) ≤ 255
 text-short p = omega (arith, text-length p, p.fits)
-
-pub too-long : (p : Path) (more : List ℕ) → 255 - p.len < length more → 255 < length (text p ++ more)
-too-long p more h = omega (arith, text-length p, length-append (text p) more)
 
 -- What stands before the path in a joined one: nothing, or the folder and `/`.
 module _ (g p : List ℕ) where

@@ -1,7 +1,7 @@
 -- Paths: how far a segment has been read, and what the functions of `paths` promise.
 use Rattle.std.specs.Prelude.{◌≡◌, refl, Option, None, Some, List, [], ◌∷◌, ◌++◌, Bool, true, false, not, ◌&&◌, leb, eqb, drop, get_or, ℕ, zero, suc, ◌+◌, ◌-◌, ◌≤◌, ◌<◌}
 use Rattle.std.proofs.Math.Path.{sym, ap}
-use Rattle.std.proofs.Common.{◌∙◌, length-append, length-drop, length-take-le, take-suc, take_all, take-take, drop-drop, arith, le-leb, eq-eqb, ne_eqb}
+use Rattle.std.proofs.Common.{◌∙◌, length-append, take-suc, take_all, arith, le-leb, eq-eqb, ne_eqb}
 use Rattle.std.proofs.Math.Bool.{and-true, and-false}
 use Rattle.std.proofs.Math.Dec.{eqb-suc-suc}
 use Rattle.std.proofs.Math.ListN.{length, take}
@@ -13,8 +13,7 @@ use Rattle.memchr.specs.Find.{IsLastByte, is_byte}
 use Rattle.rules.specs.Reader.{the, but, all, empty, prefix, same, bytes}
 use Rattle.rules.specs.Bytes.{blank, run_byte, prepend, split, is_segment, is_path, is_folder, holds, parent, trim, trim_end}
 use Rattle.scan.specs.Sets.{Spans}
-use Rattle.scan.specs.Laws.{drop-take, tail-part, not-empty}
-use Rattle.scan.specs.declared.Range.{Range}
+use Rattle.scan.specs.Laws.{not-empty}
 use Rattle.paths.specs.declared.Segment.{Segment}
 use Rattle.paths.specs.declared.Segment.TheVariants.{Empty, Dot, Dots, Good, Bad}
 
@@ -303,13 +302,6 @@ pub record TrimsEnd (t : List ℕ) (n : ℕ) : Type 0 where
   pub inside : n ≤ length t
   pub text : take n t ≡ trim_end t
 
--- The trimmed part of a part.
-pub record Trims (t : List ℕ) (from to : ℕ) (r : Range) : Type 0 where
-  pub begins : from ≤ r.from
-  pub order : r.from ≤ r.to
-  pub ends : r.to ≤ to
-  pub text : take (r.to - r.from) (drop r.from t) ≡ trim (take (to - from) (drop from t))
-
 -- Blanks behind a text are trimmed with its own; behind anything else the text stays whole.
 trim_end-cons : (x : ℕ) (xs : List ℕ) (c : Bool) → (blank x && empty (trim_end xs)) ≡ c → trim_end (x ∷ xs) ≡ elim c [ true ↦ [] | false ↦ x ∷ trim_end xs ]
 unfolding trim_end
@@ -386,23 +378,7 @@ module _ (t : List ℕ) where
   pub trims-end : TrimsEnd t (length t - suffix_len blank t)
   trims-end = let e = take_all (length t) t (omega arith) in rw e at (trims-from (length t) (trimming-start t))
 
--- The trimmed part: behind the leading blanks, up to the trailing ones.
-pub trims : (t : List ℕ) (from to a n : ℕ) → from ≤ to → to ≤ length t
-    → Spans blank (take (to - from) (drop from t)) 0 a
-    → TrimsEnd (take (length (take (to - from) (drop from t)) - a) (drop a (take (to - from) (drop from t)))) n
-    → Trims t from to (record { from = from + a; to = from + a + n })
+-- Without the leading blanks, and then without the trailing ones.
+pub trims : (t : List ℕ) (a : ℕ) → Spans blank t 0 a → trim_end (drop a t) ≡ trim t
 unfolding trim
-trims t from to a n h k s e =
-    let part = take (to - from) (drop from t) in
-    let l : length part ≡ to - from = length-take-le (to - from) (drop from t) (omega (arith, length-drop from t)) in
-    let i : a ≤ length part = s.inside in
-    let q : take (length part - a) (drop a part) ≡ drop a part = tail-part part a in
-    let m : n ≤ length (drop a part) = rw q at e.inside in
-    let m' : n ≤ to - from - a = omega (arith, length-drop a part) in
-    let d : from + a + n - (from + a) ≡ n = omega arith in
-    record {
-      begins = omega arith;
-      order = omega arith;
-      ends = omega arith;
-      text = rw d (sym (take-take n (to - from - a) (drop (from + a) t) m') ∙ ap (λ z. take n (take (to - from - a) z)) (sym (drop-drop a from t)) ∙ ap (take n) (sym (drop-take a (to - from) (drop from t))) ∙ (rw q at e.text) ∙ ap trim_end (sym s.rest));
-    }
+trims t a s = ap trim_end (sym s.rest)

@@ -2,9 +2,9 @@
 #![tactic(auto)]
 
 ghost use Rattle.std.specs.Prelude.{◌≡◌, ◌≤◌, ◌<◌, length, get_or};
-ghost use Rattle.rules.specs.Bytes.{is_path, is_folder};
+ghost use Rattle.rules.specs.Bytes.{is_path, is_folder, parent, trim, trim_end};
 ghost use Rattle.paths.specs.Joined.{Joins};
-ghost use Rattle.paths.specs.Paths.{dotted, named, ended, step, whole, Parent, TrimsEnd, Trims};
+ghost use Rattle.paths.specs.Paths.{dotted, named, ended, step, whole};
 
 mod path;
 
@@ -92,11 +92,11 @@ pub fn is_folder(g: &[u8]) -> bool
     g.is_empty() || is_path(g)
 }
 
-// The length of a path's folder: what stands before its last `/`.
-pub fn parent(p: &[u8]) -> usize
-    ensures { Parent p.now result }
+// A path's folder: what stands before its last `/`.
+pub fn parent(p: &[u8]) -> &[u8]
+    ensures { result.now ≡ parent p.now }
 {
-    memrchr(b'/', p).unwrap_or(0)
+    &p[..memrchr(b'/', p).unwrap_or(0)]
 }
 
 // Joins a path to a folder; none where that is longer than a path may be.
@@ -112,28 +112,22 @@ pub fn join(folder: &[u8], path: &[u8]) -> Option<Path>
     Some(joined)
 }
 
-// The length of a text without its trailing blanks.
-pub fn trim_end(text: &[u8]) -> usize
-    ensures { TrimsEnd text.now result }
+// A text without its trailing blanks.
+pub fn trim_end(text: &[u8]) -> &[u8]
+    ensures { result.now ≡ trim_end text.now }
 {
-    text.len()
-        - text
-            .iter()
-            .rev()
-            .take_while(|x| member(Set::Blank, **x))
-            .count()
+    let blanks = text
+        .iter()
+        .rev()
+        .take_while(|x| member(Set::Blank, **x))
+        .count();
+    &text[..text.len() - blanks]
 }
 
-// The part of a text without the blanks at both ends.
-pub fn trim(text: &[u8], from: usize, to: usize) -> Range
-    requires { (from ≤ to) × (to ≤ length text.now) }
-    ensures { Trims text.now from to result }
+// A text without the blanks at both ends.
+pub fn trim(text: &[u8]) -> &[u8]
+    ensures { result.now ≡ trim text.now }
 {
-    let part = &text[from..to];
-    let start = span(part, 0, Set::Blank);
-    let len = trim_end(&part[start..]);
-    Range {
-        from: from + start,
-        to: from + start + len,
-    }
+    let start = span(text, 0, Set::Blank);
+    trim_end(&text[start..])
 }

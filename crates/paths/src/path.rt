@@ -4,8 +4,8 @@ ghost use Rattle.std.specs.Prelude.{◌≡◌, ◌≤◌, [], length};
 // A text of at most 255 bytes.
 #[derive(Clone, Copy)]
 pub struct Path {
-    pub bytes: [u8; 255],
-    pub len: usize,
+    bytes: [u8; 255],
+    len: usize,
     ghost fits: { len ≤ 255 },
     ghost size: { length bytes ≡ 255 },
 }

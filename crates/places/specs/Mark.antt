@@ -1,20 +1,17 @@
 -- A place of a sheet from which a name may be searched for.
 use Rattle.std.specs.Prelude.{◌≡◌, refl, Bool, true, false, ◌&&◌, List, [], ◌++◌, ℕ, ◌+◌, ◌<◌, length, take, drop}
 use Rattle.std.proofs.Common.{sym, ap, ◌∙◌, append-nil, arith, length-append, drop_of_length-le}
-use Rattle.std.proofs.Math.Option.{some}
 use Rattle.std.proofs.Math.Seq.{take-append_seam, drop-append_seam}
-use Rattle.scan.specs.Sets.{part}
-use Rattle.rules.specs.Bytes.{word, less}
-use Rattle.rules.specs.Sheet.{Value, Records, end, rec, encode, good_records, decode, set, before}
+use Rattle.rules.specs.Bytes.{less}
+use Rattle.rules.specs.Sheet.{Value, Records, end, rec, encode, good_records, set, before}
 use Rattle.rules.proofs.Laws.Bool.{and_i, and_l, and_r}
-use Rattle.rules.proofs.Laws.Sheet.{less-trans, less-same, less_asym, less_up, good-parts, before-set, decode-encode}
-use Rattle.sheet.specs.Parts.{Part, part_slice}
+use Rattle.rules.proofs.Laws.Sheet.{less-trans, less-same, less_asym, less_up, good-parts, before-set}
+use Rattle.sheet.specs.Parts.{Part}
 use Rattle.sheet.specs.Items.{At, join, encode-join}
 use Rattle.std.specs.declared.cmp.Ordering.{Ordering}
 use Rattle.std.specs.Ordering.{nat_cmp, is_gt}
 use Rattle.std.specs.Cmp.Lexicographic.{slice_cmp}
 use Rattle.sheet.specs.Order.{order-less}
-use Rattle.sheet.specs.Find.{IsSheet}
 use Rattle.sheet.specs.Find.{HasRecords}
 use Rattle.places.specs.Place.{Tail, Between, Placing, between_start, set_below, set_same, set_past}
 
@@ -52,33 +49,12 @@ unfolding ascending set before
 set-ascending end n v h = refl
 set-ascending (rec m w r) n v h = set-ascending-at n m v w r (less n m) (less m n) refl refl h (set-ascending r n v (and_r (before m r) (ascending r) h))
 
--- FOR CALLERS. s is a sheet, and at byte i a record begins, or it ends.
-pub record Mark (s : List ℕ) (i : ℕ) : Type 0 where
-  pub sheet : IsSheet s
-  pub between : Between sheet.r i
-
--- 0 is always right.
-pub mark-start : {s : List ℕ} → IsSheet s → Mark s 0
-mark-start h = record { sheet = h; between = between_start h.r }
-
+-- FOR CALLERS. 0 is always right.
 pub marked_start : {s : List ℕ} {r : Records} → s ≡ encode r → Marked s r 0
 marked_start {r = r} e = record { bytes = e; between = between_start r; order = λ z. absurd (z refl) }
 
 pub has-start : {s : List ℕ} → HasRecords s → HasMark s 0
 has-start h = record { r = h.r; marked = marked_start h.bytes }
-
--- A sheet's bytes tell its records.
-some_same : (r q : Records) → some r ≡ some q → r ≡ q
-some_same r q h = cc
-
-pub mark_of : {s : List ℕ} {i : ℕ} → Mark s i → {r : Records} → s ≡ encode r → good_records r word 6 ≡ true → Marked s r i
-mark_of {s} {i} k {r} e g =
-    let h = k.sheet in
-    let q : h.r ≡ r = some_same h.r r (sym (decode-encode h.r word h.good) ∙ ap decode (sym h.bytes ∙ e) ∙ decode-encode r word g) in
-    record { bytes = e; between = rw q at k.between; order = λ z. good-ascending r word 6 g }
-
-pub has-mark : {s : List ℕ} {i : ℕ} → Mark s i → HasMark s i
-has-mark k = record { r = k.sheet.r; marked = mark_of k k.sheet.bytes k.sheet.good }
 
 -- THE START OF A SEARCH. The record at i.
 pub record There (s : List ℕ) (r : Records) (i : ℕ) : Type 0 where
@@ -129,10 +105,10 @@ set-later (rec n u f) m w q name v h g =
     let o : less n name ≡ true = less_up n m name (first-less n u f m w q h) g in
     set_past name n v u (join f (rec m w q)) (less_asym n name o) o ∙ ap (rec n u) (set-later f m w q name v (and_r (before n (join f (rec m w q))) (ascending (join f (rec m w q))) h) g)
 
-module _ {s : List ℕ} {r : Records} {name : List ℕ} {i : ℕ} (o : ascending r ≡ true) (k : There s r i) {a b : ℕ} {c : Ordering} (p : Part s a k.m b) (h : c ≡ slice_cmp nat_cmp (part s a b) name) where
+module _ {s : List ℕ} {r : Records} {name : List ℕ} {i : ℕ} (o : ascending r ≡ true) (k : There s r i) {a : List ℕ} {c : Ordering} (p : a ≡ k.m) (h : c ≡ slice_cmp nat_cmp a name) where
   pub place-there : is_gt c ≡ false → Placing s r name i
   place-there z =
-      let e : slice_cmp nat_cmp k.m name ≡ c = sym (h ∙ ap (λ y. slice_cmp nat_cmp y name) (part_slice p)) in
+      let e : slice_cmp nat_cmp k.m name ≡ c = sym (h ∙ ap (λ y. slice_cmp nat_cmp y name) p) in
       let g : less name k.m ≡ false = (order-less k.m name).1 ∙ ap is_gt e ∙ z in
       let t = k.tail in
       let sets : (v : Value) → set r name v ≡ join t.front (set (rec k.m k.w k.q) name v) = λ v. ap (λ y. set y name v) t.whole ∙ set-later t.front k.m k.w k.q name v (rw t.whole at o) g in

@@ -2,10 +2,9 @@
 use Rattle.std.specs.Prelude.{◌≡◌, refl, true, false, List, ◌∷◌, ◌++◌, ℕ, ◌+◌, ◌≤◌, ◌<◌, length, take, drop}
 use Rattle.std.proofs.Common.{sym, ap, ◌∙◌, append_assoc, append-nil, arith, length-append, drop_of_length-le, take-add}
 use Rattle.std.proofs.Math.Seq.{take-append_seam}
-use Rattle.scan.specs.Sets.{part}
 use Rattle.rules.specs.Bytes.{less}
 use Rattle.rules.specs.Sheet.{Value, Records, end, rec, encode, field_bytes, field_mask, value_bytes, value_mask, set}
-use Rattle.sheet.specs.Parts.{Part, part-all, part-split, part_slice}
+use Rattle.sheet.specs.Parts.{Part, part-all, part-split}
 use Rattle.sheet.specs.Items.{At, join, encode-join, join_one}
 use Rattle.std.specs.declared.cmp.Ordering.{Ordering}
 use Rattle.std.specs.declared.cmp.Ordering.TheVariants.{Less, Equal, Greater}
@@ -118,9 +117,9 @@ set_past n m v w r h k = rw (h, k, set) refl
 part-drop : {s x : List ℕ} {i : ℕ} → Part s i x (length s) → drop i s ≡ x
 part-drop {s} {x} p = p.bytes ∙ rw (drop_of_length-le s {i = length s} (omega arith)) (append-nil x)
 
-module _ {s : List ℕ} {r : Records} {name : List ℕ} {i : ℕ} (k : Standing s r name i) {a b : ℕ} {c : Ordering} (p : Part s a k.m b) (h : c ≡ slice_cmp nat_cmp (part s a b) name) where
+module _ {s : List ℕ} {r : Records} {name : List ℕ} {i : ℕ} (k : Standing s r name i) {a : List ℕ} {c : Ordering} (p : a ≡ k.m) (h : c ≡ slice_cmp nat_cmp a name) where
   order_is : slice_cmp nat_cmp k.m name ≡ c
-  order_is = sym (h ∙ ap (λ z. slice_cmp nat_cmp z name) (part_slice p))
+  order_is = sym (h ∙ ap (λ z. slice_cmp nat_cmp z name) p)
 
   pub place-below : c ≡ Greater → Placed s r name i i
   place-below e =

@@ -2,18 +2,19 @@
 #![tactic(auto)]
 
 ghost use Rattle.rules.specs.Sheet.{Records};
-ghost use Rattle.sheet.specs.Order.{underscored_if};
+ghost use Rattle.sheet.specs.Name.{asked};
 ghost use Rattle.places.specs.Place.{Placing, Placed};
 ghost use Rattle.places.specs.Mark.{Marked, HasMark};
 
 use scan::Range;
+use sheet::Name;
 use sheet::lookup::{item, order, skip};
 use std::cmp::Ordering;
 
 // Where the search for a name starts: at `last`, unless the record there comes behind the name.
-fn start(s: &[u8], last: usize, name: &[u8], reference: bool) -> usize
+fn start(s: &[u8], last: usize, name: Name<'_>) -> usize
     requires { HasMark s.now last }
-    ensures { (r : Records) → Marked s.now r last → Placing s.now r (underscored_if reference name.now) result }
+    ensures { (r : Records) → Marked s.now r last → Placing s.now r (asked name.entry) result }
 {
     if last == 0 {
         return 0;
@@ -22,7 +23,7 @@ fn start(s: &[u8], last: usize, name: &[u8], reference: bool) -> usize
         return 0;
     }
     let o = item(s, last);
-    let behind = order(&s[o.name.from..o.name.to], name, reference) == Ordering::Greater;
+    let behind = order(o.name, name) == Ordering::Greater;
     if behind {
         return 0;
     }
@@ -30,15 +31,15 @@ fn start(s: &[u8], last: usize, name: &[u8], reference: bool) -> usize
 }
 
 // Finds the part of the sheet that a name's record is to stand in place of.
-pub fn find_place(s: &[u8], last: usize, name: &[u8], reference: bool) -> Range
+pub fn find_place(s: &[u8], last: usize, name: Name<'_>) -> Range
     requires { HasMark s.now last }
-    ensures { (r : Records) → Marked s.now r last → Placed s.now r (underscored_if reference name.now) result.from result.to }
+    ensures { (r : Records) → Marked s.now r last → Placed s.now r (asked name.entry) result.from result.to }
 {
-    let mut i = start(s, last, name, reference);
+    let mut i = start(s, last, name);
     while i < s.len() {
         let o = item(s, i);
         let e = skip(s, o.next, o.count);
-        match order(&s[o.name.from..o.name.to], name, reference) {
+        match order(o.name, name) {
             Ordering::Less => i = e,
             Ordering::Equal => return Range { from: i, to: e },
             Ordering::Greater => return Range { from: i, to: i },

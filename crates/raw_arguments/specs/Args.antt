@@ -5,7 +5,8 @@ use Rattle.std.proofs.Math.Path.{refl, sym, ap}
 use Rattle.std.proofs.Common.{◌∙◌, arith, drop-cons, leb-true, leb-false, le-leb}
 use Rattle.std.proofs.Math.Bool.{true, false, and_assoc}
 use Rattle.std.proofs.Math.Dec.{leb}
-use Rattle.std.proofs.Math.ListN.{length, drop, length-drop}
+use Rattle.std.proofs.Math.Nat.{sub-zero}
+use Rattle.std.proofs.Math.ListN.{length, take, drop, length-drop}
 use Rattle.std.proofs.Math.Seq.{drop-drop}
 use Rattle.std.proofs.lemmas.Bool.{lt-leb}
 use Rattle.rules.specs.Reader.{Reader, ret, if_r, ◌>>=◌, ◌>>◌, bytes, but, either, empty, same, span, rounds, Turn, again, stop}
@@ -21,7 +22,8 @@ use Rattle.raw_arguments.specs.declared.Lang.{Lang}
 use Rattle.raw_arguments.specs.declared.Lang.TheVariants.{Literal, Reference}
 use Rattle.raw_arguments.specs.declared.LangRead.{LangRead}
 use Rattle.raw_arguments.specs.declared.Setting.{Setting}
-use Rattle.raw_arguments.specs.declared.Setting.TheVariants.{Language, Block, Nothing}
+use Rattle.raw_arguments.specs.declared.ArgumentRead.{ArgumentRead}
+use Rattle.raw_arguments.specs.declared.Setting.TheVariants.{Language, Block}
 use Rattle.raw_arguments.specs.declared.Args.{Args}
 use Rattle.string_ends.specs.Ends.{Ends}
 use Rattle.refusal.specs.declared.Refusal.{Refusal}
@@ -37,11 +39,10 @@ lang_text look (Some (Reference s)) = text_of (look (underscored s.now))
 abbrev pub arguments_from : Lookup → List ℕ × Bool → Reader Arguments
 arguments_from look a = rounds (argument_round look) (λ a. arguments a.0 a.1) a
 
--- From i on `lang` takes that of r.
-pub record IsLanguage (look : Lookup) (t : List ℕ) (i : ℕ) (r : LangRead) : Type 0 where
-  pub on : i ≤ r.at
-  pub inside : r.at ≤ length t
-  pub takes : (k : Bool) → lang_value look k (drop i t) ≡ (again (lang_text look (Some r.lang), k), drop r.at t)
+-- `lang` takes that of r.
+pub record IsLanguage (look : Lookup) (t : List ℕ) (r : LangRead) : Type 0 where
+  pub inside : r.used ≤ length t
+  pub takes : (k : Bool) → lang_value look k t ≡ (again (lang_text look (Some r.lang), k), drop r.used t)
 
 -- The rest of a round, behind the blanks and commas g.
 unfoldable pub named : Lookup → List ℕ × Bool → List ℕ → Round
@@ -50,55 +51,51 @@ named look a g = do
   c ← span (either ":" blank)
   argument_value look a n (not (empty g && empty n && empty c))
 
--- An argument from i to e: f says what a round comes to, by what was set so far and whether the round has moved by nothing.
-pub record Takes (look : Lookup) (t : List ℕ) (i e : ℕ) (f : List ℕ × Bool → Bool → Turn (List ℕ × Bool) Arguments) : Type 0 where
-  pub on : i ≤ e
-  pub inside : e ≤ length t
-  pub turns : (a : List ℕ × Bool) (g : List ℕ) → named look a g (drop i t) ≡ (f a (empty g && leb e i), drop e t)
-
 -- A round without a setting goes on, unless it has moved by nothing.
 unfoldable pub unset : List ℕ × Bool → Bool → Turn (List ℕ × Bool) Arguments
 unset a true = stop stalled
 unset a false = again a
 
--- The argument whose name begins at i sets r.
-unfoldable pub Sets : Lookup → List ℕ → ℕ → Setting → Type 0
-Sets look t i (Language v e) = Takes look t i e (λ a s. again (lang_text look (Some v), a.1))
-Sets look t i (Block d e) = Takes look t i e (λ a s. again (a.0, d))
-Sets look t i (Nothing e) = Takes look t i e unset
+-- What a round comes to by what it sets, by what was set so far and whether it has moved by nothing.
+unfoldable pub turn : Lookup → Option Setting → List ℕ × Bool → Bool → Turn (List ℕ × Bool) Arguments
+turn look (Some (Language v)) a s = again (lang_text look (Some v), a.1)
+turn look (Some (Block d)) a s = again (a.0, d)
+turn look None a s = unset a s
 
--- From i on the arguments are those of r.
-pub record Given (look : Lookup) (t : List ℕ) (i : ℕ) (r : Args) : Type 0 where
-  pub on : i ≤ r.at
-  pub inside : r.at ≤ length t
-  pub ends : arguments_from look ([], false) (drop i t) ≡ (arguments (lang_text look r.lang) r.block, drop r.at t)
+-- The argument that t begins with is r.
+pub record Sets (look : Lookup) (t : List ℕ) (r : ArgumentRead) : Type 0 where
+  pub inside : r.used ≤ length t
+  pub turns : (a : List ℕ × Bool) (g : List ℕ) → named look a g t ≡ (turn look r.setting a (empty g && leb r.used 0), drop r.used t)
+
+-- The arguments are those of r.
+pub record Given (look : Lookup) (t : List ℕ) (r : Args) : Type 0 where
+  pub inside : r.used ≤ length t
+  pub ends : arguments_from look ([], false) t ≡ (arguments (lang_text look r.lang) r.block, drop r.used t)
 
 -- The arguments stall, or are given.
-unfoldable pub IsArguments : Lookup → List ℕ → ℕ → Result Args Refusal → Type 0
-IsArguments look t i (Ok r) = Given look t i r
-IsArguments look t i (Err e) = (e ≡ Stalled) × ((arguments_from look ([], false) (drop i t)).0 ≡ stalled)
+unfoldable pub IsArguments : Lookup → List ℕ → Result Args Refusal → Type 0
+IsArguments look t (Ok r) = Given look t r
+IsArguments look t (Err e) = (e ≡ Stalled) × ((arguments_from look ([], false) t).0 ≡ stalled)
 
 -- WHAT `lang` TAKES.
-module _ (look : Lookup) {t : List ℕ} {i : ℕ} {q : Bool} (s : Sees (byte_is 34) t i q) where
-  pub language-literal : {k : ℕ} {l : Bor (List ℕ)} → q ≡ true → l.now ≡ part t (i + 1) (length t) → Ends (literal l.now) l.now k → IsLanguage look t i (record { lang = Literal l; at = i + 1 + k })
+module _ (look : Lookup) {t : List ℕ} {q : Bool} (s : Sees (byte_is 34) t 0 q) where
+  pub language-literal : {k : ℕ} {l : Bor (List ℕ)} → q ≡ true → l.now ≡ part t 1 (length t) → Ends (literal l.now) l.now k → IsLanguage look t (record { lang = Literal l; used = 1 + k })
   unfolding lang_value ◌>>=◌ ◌>>◌ if_r ret lang_text
   language-literal {k} {l} e x w =
-      let h : i < length t = s.there e in
-      let y : l.now ≡ drop (i + 1) t = x ∙ tail-part t (i + 1) in
-      let v : Ends (literal (drop (i + 1) t)) (drop (i + 1) t) k = rw y at w in
-      let r : (literal (drop (i + 1) t)).1 ≡ drop (i + 1 + k) t = v.rest ∙ drop-drop k (i + 1) t in
+      let h : 0 < length t = s.there e in
+      let y : l.now ≡ drop 1 t = x ∙ tail-part t 1 in
+      let v : Ends (literal (drop 1 t)) (drop 1 t) k = rw y at w in
+      let r : (literal (drop 1 t)).1 ≡ drop (1 + k) t = v.rest ∙ drop-drop k 1 t in
       record {
-        on = omega arith;
         inside = omega (arith, simp length-drop at v.inside);
-        takes = λ z. rw ((sees-the "\"" s e).says, skip_at t i h, r, y) refl;
+        takes = λ z. rw ((sees-the "\"" s e).says, skip_at t 0 h, r, y) refl;
       }
 
-  pub language-reference : {k : ℕ} {l : Bor (List ℕ)} → q ≡ false → l.now ≡ part t i k → Spans run_byte t i k → IsLanguage look t i (record { lang = Reference l; at = k })
+  pub language-reference : {k : ℕ} {l : Bor (List ℕ)} → q ≡ false → l.now ≡ take k t → Spans run_byte t 0 k → IsLanguage look t (record { lang = Reference l; used = k })
   unfolding lang_value reference ◌>>=◌ ◌>>◌ if_r ret lang_text
   language-reference e x n = record {
-    on = n.on;
     inside = n.inside;
-    takes = λ z. rw ((sees-the "\"" s e).says, n.took, n.rest, x) refl;
+    takes = λ z. rw ((sees-the "\"" s e).says, n.took, n.rest, sub-zero, x) refl;
   }
 
 -- ONE ARGUMENT. Is a part empty.
@@ -119,30 +116,37 @@ leb-both i j k h g = at (leb j i) (leb k j) refl refl
     at true false p q = sym (lt-leb k i (omega (arith, leb-false k j q)))
     at false v p q = sym (lt-leb k i (omega (arith, leb-false j i p)))
 
-module _ {t : List ℕ} {i n c : ℕ} (N : Spans word t i n) (C : Spans (either ":" blank) t n c) where
-  both-empty : (g : List ℕ) → (empty g && empty (part t i n) && empty (part t n c)) ≡ (empty g && leb c i)
+leb-from : (g n : ℕ) → leb n 0 ≡ leb (g + n) g
+leb-from g n = at (leb n 0) refl
+  where
+    at : (v : Bool) → leb n 0 ≡ v → v ≡ leb (g + n) g
+    at true e = sym (le-leb (g + n) g (omega (arith, leb-true n 0 e)))
+    at false e = sym (lt-leb (g + n) g (omega (arith, leb-false n 0 e)))
+
+module _ {t : List ℕ} {n c : ℕ} (N : Spans word t 0 n) (C : Spans (either ":" blank) t n c) where
+  both-empty : (g : List ℕ) → (empty g && empty (part t 0 n) && empty (part t n c)) ≡ (empty g && leb c 0)
   both-empty g =
       and_assoc (empty g) _ _
-      ∙ ap (λ z. empty g && z) (rw (empty-part t i n N.inside, empty-part t n c C.inside) (leb-both i n c N.on C.on))
+      ∙ ap (λ z. empty g && z) (rw (empty-part t 0 n N.inside, empty-part t n c C.inside) (leb-both 0 n c N.on C.on))
 
   module _ (look : Lookup) where
-    named-at : (a : List ℕ × Bool) (g : List ℕ) → named look a g (drop i t) ≡ argument_value look a (part t i n) (not (empty g && leb c i)) (drop c t)
+    named-at : (a : List ℕ × Bool) (g : List ℕ) → named look a g t ≡ argument_value look a (take n t) (not (empty g && leb c 0)) (drop c t)
     unfolding named ◌>>=◌
-    named-at a g = rw (N.took, N.rest, C.took, C.rest, both-empty g) refl
+    named-at a g = rw (N.took, N.rest, C.took, C.rest, both-empty g, sub-zero) refl
 
-    pub sets-language : {q : Bool} {r : LangRead} → q ≡ same (part t i n) (bytes "lang") → q ≡ true → IsLanguage look t c r → Sets look t i (Language r.lang r.at)
-    unfolding Sets argument_value if_r
-    sets-language {q} {r} l e s = record {
-      on = omega (arith, N.on, C.on, s.on);
-      inside = s.inside;
-      turns = λ a g. named-at a g ∙ rw (sym l ∙ e) (s.takes a.1);
-    }
+    pub sets-language : {q : Bool} {r : LangRead} → q ≡ same (take n t) (bytes "lang") → q ≡ true → IsLanguage look (part t c (length t)) r → Sets look t (record { setting = Some (Language r.lang); used = c + r.used })
+    unfolding turn argument_value if_r
+    sets-language {q} {r} l e s₀ =
+        let s : IsLanguage look (drop c t) r = rw tail-part at s₀ in
+        record {
+          inside = omega (arith, C.inside, simp length-drop at s.inside);
+          turns = λ a g. named-at a g ∙ rw (sym l ∙ e) (s.takes a.1 ∙ ap (λ z. (again (lang_text look (Some r.lang), a.1), z)) (drop-drop r.used c t));
+        }
 
-    module _ {q : Bool} (l : q ≡ same (part t i n) (bytes "lang")) (e : q ≡ false) where
-      pub sets_block : {p d : Bool} {k : ℕ} → p ≡ same (part t i n) (bytes "block") → p ≡ true → Spans letter t c k → d ≡ same (part t c k) (bytes "true") → Sets look t i (Block d k)
-      unfolding Sets argument_value block_value ◌>>=◌ if_r ret
+    module _ {q : Bool} (l : q ≡ same (take n t) (bytes "lang")) (e : q ≡ false) where
+      pub sets_block : {p d : Bool} {k : ℕ} → p ≡ same (take n t) (bytes "block") → p ≡ true → Spans letter t c k → d ≡ same (part t c k) (bytes "true") → Sets look t (record { setting = Some (Block d); used = k })
+      unfolding turn argument_value block_value ◌>>=◌ if_r ret
       sets_block m f s y = record {
-        on = omega (arith, N.on, C.on, s.on);
         inside = s.inside;
         turns = λ a g. named-at a g ∙ rw (sym l ∙ e, sym m ∙ f, s.took, s.rest, y) refl;
       }
@@ -152,12 +156,11 @@ module _ {t : List ℕ} {i n c : ℕ} (N : Spans word t i n) (C : Spans (either 
       unset-at a u true = refl
       unset-at a u false = refl
 
-      pub sets-nothing : {p : Bool} → p ≡ same (part t i n) (bytes "block") → p ≡ false → Sets look t i (Nothing c)
-      unfolding Sets argument_value if_r
+      pub sets-nothing : {p : Bool} → p ≡ same (take n t) (bytes "block") → p ≡ false → Sets look t (record { setting = None; used = c })
+      unfolding turn argument_value if_r
       sets-nothing m f = record {
-        on = omega (arith, N.on, C.on);
         inside = C.inside;
-        turns = λ a g. named-at a g ∙ rw (sym l ∙ e, sym m ∙ f) (unset-at a (drop c t) (empty g && leb c i));
+        turns = λ a g. named-at a g ∙ rw (sym l ∙ e, sym m ∙ f) (unset-at a (drop c t) (empty g && leb c 0));
       }
 
 -- A ROUND: blanks and commas from i to g, then an argument, or none.
@@ -170,31 +173,36 @@ module _ (look : Lookup) (a : List ℕ × Bool) {t : List ℕ} {i g : ℕ} (G : 
   unfolding argument_round named ◌>>=◌ if_r
   round-named M = rw (G.took, G.rest, M.says) refl
 
-  round-takes : {e : ℕ} (f : List ℕ × Bool → Bool → Turn (List ℕ × Bool) Arguments) → Sees (but ")") t g true → Takes look t g e f → argument_round look a (drop i t) ≡ (f a (leb e i), drop e t)
-  round-takes {e} f M s = round-named M ∙ s.turns a (part t i g) ∙ ap (λ z. (f a z, drop e t)) (ap (λ z. z && leb e g) (empty-part t i g G.inside) ∙ leb-both i g e G.on s.on)
+  round-sets : {r : ArgumentRead} → Sees (but ")") t g true → Sets look (drop g t) r → argument_round look a (drop i t) ≡ (turn look r.setting a (leb (g + r.used) i), drop (g + r.used) t)
+  round-sets {r} M s =
+      let moved : (empty (part t i g) && leb r.used 0) ≡ leb (g + r.used) i = rw (empty-part t i g G.inside, leb-from g r.used) (leb-both i g (g + r.used) G.on (omega arith)) in
+      round-named M ∙ s.turns a (part t i g)
+      ∙ λ j. (turn look r.setting a (moved j), drop-drop r.used g t j)
 
--- THE ROUNDS: from i₀ on the arguments are read up to i.
-pub record ArgsAt (look : Lookup) (t : List ℕ) (i₀ i : ℕ) (lang : Option Lang) (block : Bool) : Type 0 where
-  pub on : i₀ ≤ i
+-- An argument ends inside the text.
+pub sets-inside : {look : Lookup} {t : List ℕ} {i g : ℕ} → Spans (either "," blank) t i g → {r : ArgumentRead} → Sets look (part t g (length t)) r → g + r.used ≤ length t
+sets-inside {look} {t} G S₀ = let s = rw tail-part at S₀ in omega (arith, G.inside, simp length-drop at s.inside)
+
+-- THE ROUNDS: the arguments are read up to i.
+pub record ArgsAt (look : Lookup) (t : List ℕ) (i : ℕ) (lang : Option Lang) (block : Bool) : Type 0 where
   pub inside : i ≤ length t
-  pub left : arguments_from look ([], false) (drop i₀ t) ≡ arguments_from look (lang_text look lang, block) (drop i t)
+  pub left : arguments_from look ([], false) t ≡ arguments_from look (lang_text look lang, block) (drop i t)
 
-pub args_start : (look : Lookup) (t : List ℕ) (i : ℕ) → i ≤ length t → ArgsAt look t i i None false
+pub args_start : (look : Lookup) (t : List ℕ) → ArgsAt look t 0 None false
 unfolding lang_text
-args_start look t i h = record { on = omega arith; inside = h; left = refl }
+args_start look t = record { inside = omega arith; left = refl }
 
-module _ {look : Lookup} {t : List ℕ} {i₀ i : ℕ} {lang : Option Lang} {block : Bool} (x : ArgsAt look t i₀ i lang block) where
+module _ {look : Lookup} {t : List ℕ} {i : ℕ} {lang : Option Lang} {block : Bool} (x : ArgsAt look t i lang block) where
   abbrev set : List ℕ × Bool
   set = (lang_text look lang, block)
 
   -- One round more, which has moved.
-  args_next : {v : Option Lang} {d : Bool} {k : ℕ} → k ≤ length t → argument_round look set (drop i t) ≡ (again (lang_text look v, d), drop k t) → (i < k) × ArgsAt look t i₀ k v d
+  args_next : {v : Option Lang} {d : Bool} {k : ℕ} → k ≤ length t → argument_round look set (drop i t) ≡ (again (lang_text look v, d), drop k t) → (i < k) × ArgsAt look t k v d
   args_next {v} {d} {k} j r =
       let m = argument_moving look set _ (drop i t) (ap (λ z. z.0) r) in
       let f : i < k = omega (arith, x.inside, simp length-drop at (rw (ap (λ z. z.1) r) at m)) in (
         f,
         record {
-          on = omega (arith, x.on);
           inside = j;
           left = x.left ∙ rounds-again (argument_round look) (λ a. arguments a.0 a.1) (argument_moving look) set _ (drop i t) (ap (λ z. z.0) r)
               ∙ ap (λ (u : List ℕ). arguments_from look (lang_text look v, d) u) (ap (λ z. z.1) r);
@@ -202,39 +210,35 @@ module _ {look : Lookup} {t : List ℕ} {i₀ i : ℕ} {lang : Option Lang} {blo
       )
 
   -- The last round.
-  args_stop : {y : Arguments} (k : ℕ) → argument_round look set (drop i t) ≡ (stop y, drop k t) → arguments_from look ([], false) (drop i₀ t) ≡ (y, drop k t)
+  args_stop : {y : Arguments} (k : ℕ) → argument_round look set (drop i t) ≡ (stop y, drop k t) → arguments_from look ([], false) t ≡ (y, drop k t)
   args_stop {y} k r = x.left ∙ rounds-stop (argument_round look) (λ a. arguments a.0 a.1) (argument_moving look) set _ (drop i t) (ap (λ z. z.0) r) ∙ ap (λ z. (y, z.1)) r
 
   module _ {g : ℕ} (G : Spans (either "," blank) t i g) {m : Bool} (M : Sees (but ")") t g m) where
     -- It ends at `)`, or at the end.
-    pub args_end : m ≡ false → IsArguments look t i₀ (Ok (record { lang = lang; block = block; at = g }))
+    pub args_end : m ≡ false → IsArguments look t (Ok (record { lang = lang; block = block; used = g }))
     unfolding IsArguments
-    args_end e = record { on = omega (arith, x.on, G.on); inside = G.inside; ends = args_stop g (round-end look set G (seen M e)) }
+    args_end e = record { inside = G.inside; ends = args_stop g (round-end look set G (seen M e)) }
 
     -- It has an argument.
-    module _ (e : m ≡ true) where
-      takes : {k : ℕ} (f : List ℕ × Bool → Bool → Turn (List ℕ × Bool) Arguments) → Takes look t g k f → argument_round look set (drop i t) ≡ (f set (leb k i), drop k t)
-      takes f T = round-takes look set G f (seen M e) T
+    module _ (e : m ≡ true) {r : ArgumentRead} (S₀ : Sets look (part t g (length t)) r) where
+      round : {f : Option Setting} → r.setting ≡ f → argument_round look set (drop i t) ≡ (turn look f set (leb (g + r.used) i), drop (g + r.used) t)
+      round h = round-sets look set G (seen M e) (rw tail-part at S₀) ∙ ap (λ z. (turn look z set (leb (g + r.used) i), drop (g + r.used) t)) h
 
-      module _ {s : Setting} (S : Sets look t g s) where
-        pub args_language : {v : Lang} {k : ℕ} → s ≡ Language v k → (i < k) × ArgsAt look t i₀ k (Some v) block
-        unfolding Sets
-        args_language {v} h = let T = rw h at S in args_next {v = Some v} T.inside (takes _ T)
+      pub args_language : {f : Setting} {v : Lang} → r.setting ≡ Some f → f ≡ Language v → (i < g + r.used) × ArgsAt look t (g + r.used) (Some v) block
+      unfolding turn
+      args_language {v = v} h y = args_next {v = Some v} (sets-inside G S₀) (round (h ∙ ap Some y))
 
-        pub args_block : {d : Bool} {k : ℕ} → s ≡ Block d k → (i < k) × ArgsAt look t i₀ k lang d
-        unfolding Sets
-        args_block h = let T = rw h at S in args_next T.inside (takes _ T)
+      pub args_block : {f : Setting} {d : Bool} → r.setting ≡ Some f → f ≡ Block d → (i < g + r.used) × ArgsAt look t (g + r.used) lang d
+      unfolding turn
+      args_block h y = args_next (sets-inside G S₀) (round (h ∙ ap Some y))
 
-        module _ {k : ℕ} (h : s ≡ Nothing k) where
-          pub args_nothing : (k ≡ i → ⊥) → (i < k) × ArgsAt look t i₀ k lang block
-          unfolding Sets unset
-          args_nothing n =
-              let T = rw h at S in
-              args_next T.inside (takes unset T ∙ rw (lt-leb k i (omega (arith, G.on, T.on))) refl)
+      module _ (h : r.setting ≡ None) where
+        pub args_nothing : (g + r.used ≡ i → ⊥) → (i < g + r.used) × ArgsAt look t (g + r.used) lang block
+        unfolding turn unset
+        args_nothing n = args_next (sets-inside G S₀) (round h ∙ rw (lt-leb (g + r.used) i (omega (arith, G.on, n))) refl)
 
-          pub args_stalled : k ≡ i → IsArguments look t i₀ (Err Stalled)
-          unfolding Sets unset IsArguments
-          args_stalled n =
-              let T = rw h at S in
-              let r : argument_round look set (drop i t) ≡ (stop stalled, drop k t) = takes unset T ∙ rw (le-leb k i (omega arith)) refl in
-              (refl, ap (λ y. y.0) (args_stop k r))
+        pub args_stalled : g + r.used ≡ i → IsArguments look t (Err Stalled)
+        unfolding turn unset IsArguments
+        args_stalled n =
+            let y : argument_round look set (drop i t) ≡ (stop stalled, drop (g + r.used) t) = round h ∙ rw (le-leb (g + r.used) i (omega arith)) refl in
+            (refl, ap (λ y. y.0) (args_stop (g + r.used) y))

@@ -1,12 +1,17 @@
 // The text of a language: looked up once, measured, then put.
-ghost use Rattle.std.specs.Prelude.{◌≡◌, ◌+◌, ◌^◌, ◌≤◌, ◌<◌, length};
+ghost use Rattle.std.specs.Prelude.{◌≡◌, ◌+◌, ◌^◌, ◌<◌, length};
+ghost use Rattle.rules.specs.Run.{put, ok};
 ghost use Rattle.rules.specs.Sheet.{resolve};
-ghost use Rattle.sheet.specs.Find.{IsSheet};
-ghost use Rattle.buffers.specs.Put.{after, Writer, Put};
+ghost use Rattle.sheet.specs.Records.{records_of};
+ghost use Rattle.buffers.specs.Put.{after};
+ghost use Rattle.buffers.specs.Wrote.{Wrote};
 ghost use Rattle.raw_arguments.specs.Args.{lang_text};
 ghost use Rattle.raw_arguments.specs.Lang.{text_of_lang};
 
 use crate::Lang;
+use buffers::writer::Writer;
+use refusal::Refusal;
+use sheet::Sheet;
 
 // A language whose reference is looked up: a literal, from behind its quote; a text that stands as it is.
 #[derive(Clone, Copy)]
@@ -16,23 +21,21 @@ pub enum LangText<'a> {
 }
 
 // Looks a language up. Without one the text is empty.
-pub fn look_up<'a>(sheet: &'a [u8], lang: Option<Lang<'a>>) -> LangText<'a>
-    requires { IsSheet sheet.now }
-    ensures { (s : IsSheet sheet.now) → text_of_lang result ≡ lang_text (resolve s.r) lang.entry }
+#[tactic(auto, unfolding(crate::specs::Lang::text_of_lang, crate::specs::Args::lang_text))]
+pub fn look_up<'a>(sheet: &Sheet<'a>, lang: Option<Lang<'a>>) -> LangText<'a>
+    ensures { text_of_lang result ≡ lang_text (resolve (records_of sheet.now)) lang.entry }
 {
     let Some(given) = lang else {
-        return LangText::Plain(&sheet[..0]);
+        return LangText::Plain(b"");
     };
     match given {
         Lang::Literal(text) => LangText::Literal(text),
-        Lang::Reference(run) => {
-            let found = strings::find_text(sheet, run);
-            LangText::Plain(&sheet[found.from..found.to])
-        }
+        Lang::Reference(run) => LangText::Plain(strings::find_text(sheet, run)),
     }
 }
 
 // How long the text is, as far as the room goes.
+#[tactic(auto, unfolding(crate::specs::Lang::text_of_lang))]
 pub fn measure(lang: LangText<'_>, room: usize) -> usize
     requires { room + 1 < 2 ^ 64 }
     ensures { result ≡ after room 0 (length (text_of_lang lang.entry)) }
@@ -48,15 +51,14 @@ pub fn measure(lang: LangText<'_>, room: usize) -> usize
 }
 
 // Puts the text.
-pub fn put(lang: LangText<'_>, out: &mut [u8], room: usize, p: usize) -> usize
-    requires { Writer room p × (length out.old ≤ room) }
-    ensures { Put room out.old p (text_of_lang lang.entry) out.new result }
+pub fn put(lang: LangText<'_>, w: &mut Writer<'_>) -> Result<(), Refusal>
+    ensures { Wrote (put (text_of_lang lang.entry) ok) w.old w.new result }
 {
     match lang {
         LangText::Literal(text) => {
-            let r = strings::literal(text, out, room, p);
-            r.next
+            strings::literal(text, w)?;
+            Ok(())
         }
-        LangText::Plain(text) => buffers::put(out, room, p, text),
+        LangText::Plain(text) => w.put(text),
     }
 }

@@ -1,7 +1,6 @@
 // The arguments of a raw call (document 01, section 5): its language, and whether it is a block.
 #![tactic(auto)]
 
-ghost use Rattle.std.specs.Prelude.{◌≤◌, length};
 ghost use Rattle.rules.specs.Sheet.{Lookup};
 ghost use Rattle.raw_arguments.specs.Args.{IsLanguage, Sets, IsArguments};
 
@@ -17,103 +16,107 @@ pub enum Lang<'a> {
     Reference(&'a [u8]),
 }
 
-// What `lang` takes, and where reading goes on.
+// What `lang` takes, and how many bytes were read.
 #[derive(Clone, Copy)]
 pub struct LangRead<'a> {
     pub lang: Lang<'a>,
-    pub at: usize,
+    pub used: usize,
 }
 
 // What `lang` takes: a literal at `"`, else a reference.
-fn language<'a>(text: &'a [u8], at: usize) -> LangRead<'a>
-    requires { at ≤ length text.now }
-    ensures { (look : Lookup) → IsLanguage look text.now at result }
+fn language<'a>(text: &'a [u8]) -> LangRead<'a>
+    ensures { (look : Lookup) → IsLanguage look text.now result }
 {
-    if scan::at(text, at, b'"') {
-        let literal = &text[at + 1..];
+    if scan::at(text, 0, b'"') {
+        let literal = &text[1..];
         return LangRead {
             lang: Lang::Literal(literal),
-            at: at + 1 + string_ends::literal_end(literal),
+            used: 1 + string_ends::literal_end(literal),
         };
     }
-    let end = scan::span(text, at, Set::Run);
+    let used = scan::span(text, 0, Set::Run);
     LangRead {
-        lang: Lang::Reference(&text[at..end]),
-        at: end,
+        lang: Lang::Reference(&text[..used]),
+        used,
     }
 }
 
-// What an argument sets, and where reading goes on: the language; block, on or off; nothing, under any other name.
+// What an argument sets: the language; block, on or off.
 #[derive(Clone, Copy)]
 pub enum Setting<'a> {
-    Language { lang: Lang<'a>, next: usize },
-    Block { on: bool, next: usize },
-    Nothing { next: usize },
+    Language(Lang<'a>),
+    Block(bool),
 }
 
-// The argument whose name begins at a place. The name may be empty.
-fn argument<'a>(text: &'a [u8], at: usize) -> Setting<'a>
-    requires { at ≤ length text.now }
-    ensures { (look : Lookup) → Sets look text.now at result }
+// What an argument sets, nothing under any other name, and how many bytes were read.
+#[derive(Clone, Copy)]
+pub struct ArgumentRead<'a> {
+    pub setting: Option<Setting<'a>>,
+    pub used: usize,
+}
+
+// The argument that a text begins with. Its name may be empty.
+fn argument<'a>(text: &'a [u8]) -> ArgumentRead<'a>
+    ensures { (look : Lookup) → Sets look text.now result }
 {
-    let end = scan::span(text, at, Set::Word);
+    let end = scan::span(text, 0, Set::Word);
     let from = scan::span(text, end, Set::ColonOrBlank);
-    if scan::same(&text[at..end], b"lang") {
-        let read = language(text, from);
-        return Setting::Language {
-            lang: read.lang,
-            next: read.at,
+    if scan::same(&text[..end], b"lang") {
+        let read = language(&text[from..]);
+        return ArgumentRead {
+            setting: Some(Setting::Language(read.lang)),
+            used: from + read.used,
         };
     }
-    if scan::same(&text[at..end], b"block") {
-        let next = scan::span(text, from, Set::Letter);
-        let on = scan::same(&text[from..next], b"true");
-        return Setting::Block { on, next };
+    if scan::same(&text[..end], b"block") {
+        let used = scan::span(text, from, Set::Letter);
+        let on = scan::same(&text[from..used], b"true");
+        return ArgumentRead {
+            setting: Some(Setting::Block(on)),
+            used,
+        };
     }
-    Setting::Nothing { next: from }
+    ArgumentRead {
+        setting: None,
+        used: from,
+    }
 }
 
-// What the arguments come to: the language, if one is given; is it a block; and where reading goes on.
+// What the arguments come to: the language, if one is given; is it a block; and how many bytes were read.
 #[derive(Clone, Copy)]
 pub struct Args<'a> {
     pub lang: Option<Lang<'a>>,
     pub block: bool,
-    pub at: usize,
+    pub used: usize,
 }
 
-// Reads the arguments of a raw call from a place on, up to `)` or the end. A later argument replaces an earlier one. A round that moves by nothing is
-// refused.
-pub fn arguments<'a>(text: &'a [u8], at: usize) -> Result<Args<'a>, Refusal>
-    requires { at ≤ length text.now }
-    ensures { (look : Lookup) → IsArguments look text.now at result }
+// Reads the arguments of a raw call, up to `)` or the end. A later argument replaces an earlier one. A round that moves by nothing is refused.
+pub fn arguments<'a>(text: &'a [u8]) -> Result<Args<'a>, Refusal>
+    ensures { (look : Lookup) → IsArguments look text.now result }
 {
     let mut lang = None;
     let mut block = false;
-    let mut i = at;
+    let mut i: usize = 0;
     'rounds: loop {
         let from = scan::span(text, i, Set::CommaOrBlank);
         if !scan::sees(text, from, Set::NotParen) {
             return Ok(Args {
                 lang,
                 block,
-                at: from,
+                used: from,
             });
         }
-        match argument(text, from) {
-            Setting::Language { lang: taken, next } => {
-                lang = Some(taken);
-                i = next;
-            }
-            Setting::Block { on, next } => {
-                block = on;
-                i = next;
-            }
-            Setting::Nothing { next } => {
+        let read = argument(&text[from..]);
+        let next = from + read.used;
+        match read.setting {
+            Some(Setting::Language(given)) => lang = Some(given),
+            Some(Setting::Block(on)) => block = on,
+            None => {
                 if next == i {
                     return Err(Refusal::Stalled);
                 }
-                i = next;
             }
         }
+        i = next;
     }
 }

@@ -1,82 +1,59 @@
 -- A raw call's content.
-use Rattle.std.specs.Prelude.{Result, Ok, Err, ◌≡◌, List, [], ◌∷◌, Bool, true, false, ℕ, suc, ◌+◌, ◌-◌, ◌≤◌, ◌<◌, eqb, length, take, drop}
+use Rattle.std.specs.Prelude.{Option, Some, None, MatchOption, Result, Ok, Err, ◌≡◌, List, [], ◌∷◌, Bool, true, false, ℕ, suc, ◌+◌, ◌≤◌, ◌<◌, eqb, length, take, drop}
+use Rattle.std.specs.Borrow.{Bor, MutBor}
+use Rattle.std.specs.Option.{unwrap_or}
+use lib.Pointwise.{pointwise}
+use Rattle.std.proofs.Math.Bool.{and-true}
 use Rattle.std.proofs.Math.Path.{refl}
 use Rattle.std.proofs.Common.{sym, ap, ◌∙◌, true≢false, arith, eq-eqb, ne_eqb, eqb-true}
 use Rattle.std.proofs.Math.ListN.{length-drop}
+use Rattle.std.proofs.Math.Nat.{sub-zero}
 use Rattle.std.proofs.Math.Seq.{drop-drop}
 use Rattle.std.proofs.lemmas.Bool.{eqb-false}
-use Rattle.rules.specs.Answer.{Answer, refused}
-use Rattle.rules.specs.Reader.{bytes, but, prefix, sees, mark, ret, if_r, ◌>>=◌, ◌>>◌}
+use Rattle.rules.specs.Answer.{refused, accepted}
+use Rattle.rules.specs.Reader.{bytes, but, prefix, mark, ret, if_r, ◌>>=◌, ◌>>◌}
 use Rattle.rules.specs.Bytes.{blank, run_byte, underscored}
 use Rattle.rules.specs.Sheet.{Lookup, text_of}
 use Rattle.rules.specs.Strings.{reference, expression}
 use Rattle.rules.specs.Files.{View, opened}
-use Rattle.rules.specs.Expansion.{Content, handed_back, no_content, given, raw_content, without_slash, read_call, content}
+use Rattle.rules.specs.Expansion.{Content as What, handed_back, no_content, given, raw_content, without_slash, read_call, content}
 use Rattle.scan.specs.Sets.{part, Spans, Skips, Sees, Starts, byte_is}
-use Rattle.scan.specs.Laws.{sees-the, skips-at, mark_of, mark-yes, mark-no}
-use Rattle.scan.specs.Laws.{drop-take, tail-part}
-use Rattle.bundle.specs.Open.{Opens, long-opened}
-use Rattle.buffers.specs.Put.{Put}
-use Rattle.sheet.specs.Find.{Places}
-use Rattle.strings.specs.Read.{Wrote}
-use Rattle.strings.specs.Paths.{PathIn}
-use Rattle.scan.specs.declared.Range.{Range}
-use Rattle.bundle_entries.specs.Entries.{Within}
+use Rattle.scan.specs.Laws.{sees-the, skips-at, mark_of, mark-yes, mark-no, tail-part}
+use Rattle.bundle.specs.Open.{long-opened}
+use Rattle.rules.specs.Run.{put, ok}
+use Rattle.refusal.specs.declared.Refusal.TheVariants.{Path as TooLong}
+use Rattle.buffers.specs.declared.writer.Writer.{Writer}
+use Rattle.buffers.specs.Wrote.{Wrote, Begins, wrote-over, wrote-first}
+use Rattle.string_ends.specs.Ends.{Ends}
 use Rattle.refusal.specs.Numbers.{number}
 use Rattle.refusal.specs.declared.Refusal.{Refusal}
-use Rattle.calls.specs.declared.measure.Measure.{Measure}
 use Rattle.calls.specs.declared.measure.Measured.{Measured}
 use Rattle.calls.specs.Measure.{Measures, MeasuresRead}
-use Rattle.raw_content.specs.declared.Value.{Value}
-use Rattle.raw_content.specs.declared.Value.TheVariants.{Expression, Found, File}
-use Rattle.raw_content.specs.declared.CallContent.{CallContent}
-use Rattle.raw_content.specs.declared.CallContent.TheVariants.{Given, HandedBack, Refused as Bad}
+use Rattle.raw_content.specs.declared.Content.{Content}
+use Rattle.raw_content.specs.declared.Content.TheVariants.{Expression, Text}
+use Rattle.raw_content.specs.declared.Given.{Given}
 use Rattle.raw_content.specs.declared.ContentRead.{ContentRead}
 
--- A content's text: `look` answers the text that a lookup gives; b: the bundle's bytes; z: the sheet's; t: the text that is read.
-unfoldable pub value_text : Lookup → List ℕ → List ℕ → List ℕ → Value → List ℕ
-value_text look b z t (Expression a) = (expression look (drop a t)).0
-value_text look b z t (Found a e) = part z a e
-value_text look b z t (File a e) = part b a e
+-- A content's text: `look` answers the text that a lookup gives.
+unfoldable pub content_text : Lookup → Content → List ℕ
+content_text look (Expression t) = (expression look t.now).0
+content_text look (Text t) = t.now
 
--- It lies inside them.
-unfoldable pub Inside : List ℕ → List ℕ → List ℕ → Value → Type 0
-Inside b z t (Expression a) = a ≤ length t
-Inside b z t (Found a e) = (a ≤ e) × (e ≤ length z)
-Inside b z t (File a e) = (a ≤ e) × (e ≤ length b)
+-- What the rules read is what is told, and measures what is told, as far as the room goes.
+unfoldable pub Told : ℕ → Lookup → What → Option Given → Type 0
+Told room look c None = c ≡ handed_back
+Told room look c (Some g) = (c ≡ given (content_text look g.content)) × Measures room (content_text look g.content) g.size
 
--- The rules' content of what is told.
-unfoldable pub as_content : Lookup → List ℕ → List ℕ → List ℕ → CallContent → Content
-as_content look b z t (Given v) = given (value_text look b z t v)
-as_content look b z t HandedBack = handed_back
-as_content look b z t (Bad k) = no_content k
+-- c: what the rules read from the text t, and its rest.
+pub record IsRead (room : ℕ) (c : What × List ℕ) (look : Lookup) (t : List ℕ) (r : ContentRead) : Type 0 where
+  pub inside : r.used ≤ length t
+  pub rest : c.1 ≡ drop r.used t
+  pub told : Told room look c.0 r.given
 
--- A content that is given lies inside, and measures m.
-unfoldable pub Sized : ℕ → Lookup → List ℕ → List ℕ → List ℕ → CallContent → Measure → Type 0
-Sized room look b z t (Given v) m = Inside b z t v × Measures room (value_text look b z t v) m
-Sized room look b z t HandedBack m = Unit {0}
-Sized room look b z t (Bad k) m = Unit {0}
-
--- c: what the rules read, from i on.
-pub record Contents (room : ℕ) (c : Content × List ℕ) (look : Lookup) (b z t : List ℕ) (i : ℕ) (r : ContentRead) : Type 0 where
-  pub on : i ≤ r.at
-  pub inside : r.at ≤ length t
-  pub sized : Sized room look b z t r.content r.size
-  pub says : c ≡ (as_content look b z t r.content, drop r.at t)
-
--- A content that is not given measures nothing.
-abbrev pub without_text : CallContent → ℕ → ContentRead
-without_text c j = record { content = c; size = record { len = 0; kept = 0 }; at = j }
-
--- What was opened lies in the bundle.
-abbrev pub InBundle : List ℕ → Result Range Refusal → Type 0
-InBundle b (Ok r) = Within b r
-InBundle b (Err e) = Unit {0}
-
--- What was opened, as a content; reading goes on at j.
-abbrev pub FileIs : ℕ → List ℕ → ℕ → Result Range Refusal → ContentRead → Type 0
-FileIs room b j (Err e) r = (r.at ≡ j) × (r.content ≡ Bad (number e))
-FileIs room b j (Ok f) r = (r.at ≡ j) × (r.content ≡ Given (File f.from f.to)) × Measures room (part b f.from f.to) r.size
+-- It is read, or refused.
+abbrev pub Reads : ℕ → What × List ℕ → Lookup → List ℕ → Result ContentRead Refusal → Type 0
+Reads room c look t (Ok r) = IsRead room c look t r
+Reads room c look t (Err e) = c.0 ≡ no_content (number e)
 
 -- THE PATH OF A FILE. One leading `/`.
 slash-at : (x : ℕ) (xs : List ℕ) (c : Bool) → eqb 47 x ≡ c → without_slash (x ∷ xs) ≡ elim c [ true ↦ xs | false ↦ x ∷ xs ]
@@ -84,15 +61,19 @@ unfolding without_slash prefix
 slash-at x xs true e = ap (λ z. z.1) (mark_of (bytes "/") (x ∷ xs) true (rw e refl))
 slash-at x xs false e = ap (λ z. z.1) (mark_of (bytes "/") (x ∷ xs) false (rw e refl))
 
-slash-yes : (p : List ℕ) → sees (byte_is 47) p ≡ (true, p) → without_slash p ≡ drop 1 p
-unfolding sees
-slash-yes [] e = absurd (true≢false (sym (ap (λ z. z.0) e)))
-slash-yes (x ∷ xs) e = slash-at x xs true (eq-eqb 47 x (sym (eqb-true x 47 (ap (λ z. z.0) e))))
+turned : (x : ℕ) (c : Bool) → eqb x 47 ≡ c → eqb 47 x ≡ c
+turned x true e = eq-eqb 47 x (sym (eqb-true x 47 e))
+turned x false e = ne_eqb 47 x (λ z. eqb-false x 47 e (sym z))
 
-slash-no : (p : List ℕ) → sees (byte_is 47) p ≡ (false, p) → without_slash p ≡ p
-unfolding sees
-slash-no [] e = unfold without_slash mark prefix in refl
-slash-no (x ∷ xs) e = slash-at x xs false (ne_eqb 47 x (λ z. eqb-false x 47 (ap (λ z. z.0) e) (sym z)))
+slash-is : (p : List ℕ) (c : Bool) → pointwise eqb (take 1 p) (47 ∷ []) ≡ c → without_slash p ≡ elim c [ true ↦ drop 1 p | false ↦ p ]
+slash-is [] true e = absurd (true≢false (sym e))
+slash-is [] false e = unfold without_slash mark prefix in refl
+slash-is (x ∷ xs) c e = slash-at x xs c (turned x c (sym (and-true (eqb x 47)) ∙ e))
+
+-- A path that a leading `/` was taken from, if it has one.
+pub stripped : (p : Bor (List ℕ)) (o : Option (Bor (List ℕ))) → MatchOption o (pointwise eqb (take 1 p.now) (47 ∷ []) ≡ false) (λ x. (pointwise eqb (take 1 p.now) (47 ∷ []) ≡ true) × (x.now ≡ drop 1 p.now) × (length x.now + 1 ≡ length p.now)) → without_slash p.now ≡ (unwrap_or o p).now
+stripped p None h = slash-is p.now false h
+stripped p (Some x) h = slash-is p.now true h.0 ∙ sym h.1
 
 slash-length : (p : List ℕ) → length p ≤ suc (length (without_slash p))
 slash-length [] = omega arith
@@ -102,93 +83,94 @@ slash-length (x ∷ xs) = at (eqb 47 x) refl
     at true e = omega (arith, ap length (slash-at x xs true e))
     at false e = omega (arith, ap length (slash-at x xs false e))
 
-module _ (b : List ℕ) (v : View) {p path : List ℕ} {n : ℕ} (k : PathIn p path n) where
-  pub path-long : 256 < n → opened v (without_slash p) ≡ refused 4
-  path-long h = long-opened v (without_slash p) (omega (arith, k.long h, slash-length p))
+-- A path that is too long.
+pub path-long : (v : View) (p : List ℕ) → 256 < length p → opened v (without_slash p) ≡ refused 4
+path-long v p h = long-opened v (without_slash p) (omega (arith, h, slash-length p))
 
-  module _ (h : n ≤ 256) {c : Bool} (s : Sees (byte_is 47) (take n path) 0 c) where
-    pub path-slash : c ≡ true → (r : Result Range Refusal) → Opens b (opened v (take (n - 1) (drop 1 path))) r → Opens b (opened v (without_slash p)) r
-    path-slash e r o = rw (sym (drop-take 1 n path) ∙ ap (drop 1) (k.fits h) ∙ sym (slash-yes p (rw (k.fits h, e) at s.says))) at o
-
-    pub path-plain : c ≡ false → (r : Result Range Refusal) → Opens b (opened v (take n path)) r → Opens b (opened v (without_slash p)) r
-    path-plain e r o = rw (k.fits h ∙ sym (slash-no p (rw (k.fits h, e) at s.says))) at o
-
-pub in-bundle : (b : List ℕ) (a : Answer (List ℕ)) (f : Result Range Refusal) → Opens b a f → InBundle b f
-in-bundle b a (Ok r) o = o.within
-in-bundle b a (Err e) o = tt
-
-content-says : (room : ℕ) (look : Lookup) (b z t : List ℕ) (a : Answer (List ℕ)) (j : ℕ) (f : Result Range Refusal) (r : ContentRead) → Opens b a f → FileIs room b j f r → (r.at ≡ j) × (raw_content a ≡ as_content look b z t r.content) × Sized room look b z t r.content r.size
-unfolding raw_content as_content Sized value_text Inside
-content-says room look b z t a j (Err e) r o h = (h.0, rw (h.1, o) refl, rw h.1 tt)
-content-says room look b z t a j (Ok f) r o h = (h.0, rw (h.1, o.says) refl, rw h.1 ((o.within.order, o.within.inside), h.2))
+given-is : (f : List ℕ) → raw_content (accepted f) ≡ given f
+unfolding raw_content
+given-is f = refl
 
 -- `read`, by what the scans gave.
-module _ (room : ℕ) (v : View) (look : Lookup) {b z t : List ℕ} {at i : ℕ} (l : Spans blank t at i) {c : Bool} (q : Sees (byte_is 40) t i c) where
-  pub read_back : {r : ContentRead} → c ≡ false → r ≡ without_text HandedBack i → Contents room (read_call v look (drop at t)) look b z t at r
-  unfolding read_call as_content Sized ◌>>=◌ ◌>>◌ if_r ret
-  read_back e h = rw h (record { on = l.on; inside = l.inside; sized = tt; says = rw (l.rest, (sees-the "(" q e).says) refl })
+module _ (room : ℕ) (v : View) (look : Lookup) {t : List ℕ} {i : ℕ} (l : Spans blank t 0 i) {c : Bool} (q : Sees (byte_is 40) t i c) where
+  pub read-back : c ≡ false → Reads room (read_call v look t) look t (Ok (record { given = None; used = i }))
+  unfolding read_call Told ◌>>=◌ ◌>>◌ if_r ret
+  read-back e = record { inside = l.inside; rest = rw (l.rest, (sees-the "(" q e).says) refl; told = rw (l.rest, (sees-the "(" q e).says) refl }
 
-  pub read-file : c ≡ true → {o path : List ℕ} {k n : ℕ} → Wrote 256 (expression look (take (length t - (i + 1)) (drop (i + 1) t))) (take (length t - (i + 1)) (drop (i + 1) t)) o 0 path k n →
-      {j m : ℕ} → Spans (but ")") t (i + 1 + k) j → Skips t j m → (f : Result Range Refusal) {r : ContentRead} → Opens b (opened v (without_slash (expression look (take (length t - (i + 1)) (drop (i + 1) t))).0)) f → FileIs room b m f r →
-      Contents room (read_call v look (drop at t)) look b z t at r
-  read-file e {o} {path} {k} {n} w {j} {m} x y f {r} p h =
-      let g = content-says room look b z t _ m f r p h in
-      record {
-        on = omega (arith, l.on, x.on, y.on, g.0);
-        inside = omega (arith, y.inside, g.0);
-        sized = g.2;
-        says = reads ∙ ap (λ u. (u, drop m t)) g.1 ∙ ap (λ u. (as_content look b z t r.content, drop u t)) (sym g.0);
+  abbrev Path : List ℕ
+  Path = (expression look (part t (i + 1) (length t))).0
+
+  -- The path is put by a writer into 256 bytes, one more than a path may have.
+  module _ (e : c ≡ true) {A : Type 0} {w w₂ : Writer} {p : Result A Refusal} (P : Wrote (put Path ok) w w₂ p) {o : MutBor (List ℕ)} (b : Begins o TooLong w) where
+    file-is : (read_call v look t).0 ≡ raw_content (opened v (without_slash Path))
+    file-is = behind ∙ ap (λ z. raw_content (opened v (without_slash (expression look z).0))) (sym (tail-part t (i + 1)))
+      where
+        behind : (read_call v look t).0 ≡ raw_content (opened v (without_slash (expression look (drop (i + 1) t)).0))
+        behind = unfold read_call ◌>>=◌ ◌>>◌ if_r ret in (rw (l.rest, (sees-the "(" q e).says, (skips-at t i (q.there e)).rest) refl)
+
+    refused-is : {n : ℕ} → opened v (without_slash Path) ≡ refused n → (read_call v look t).0 ≡ no_content n
+    unfolding raw_content
+    refused-is x = file-is ∙ rw x refl
+
+    pub read-long : length o.now ≡ 256 → {k : Refusal} → p ≡ Err k → {r : Result ContentRead Refusal} → r ≡ Err k → Reads room (read_call v look t) look t r
+    read-long n {k} h z =
+        let d = wrote-over P h in
+        let four : number k ≡ 4 = d.1 ∙ ap number b.full in
+        let size : length w.out.now ≡ 256 = ap (λ x. length x.now) b.same ∙ n in
+        rw (z, four) (refused-is (path-long v Path (omega (arith, d.0, size, b.at))))
+
+    -- It is put: the first bytes of x, which holds it when the writer is let go.
+    module _ {u : A} (h : p ≡ Ok u) {x : List ℕ} (left : x ≡ w₂.out.now) where
+      path-is : take w₂.at x ≡ Path
+      path-is = ap (take w₂.at) left ∙ wrote-first P h b.at
+
+      pub read-refused : {k : Refusal} → opened v (without_slash (take w₂.at x)) ≡ refused (number k) → {r : Result ContentRead Refusal} → r ≡ Err k → Reads room (read_call v look t) look t r
+      read-refused f z = rw z (refused-is (ap (λ z. opened v (without_slash z)) (sym path-is) ∙ f))
+
+      pub read-file : {k j m : ℕ} → Ends (expression look (part t (i + 1) (length t))) (part t (i + 1) (length t)) k → Spans (but ")") t (i + 1 + k) j → Skips t j m → {f : List ℕ} {g : Option Given} → opened v (without_slash (take w₂.at x)) ≡ accepted f → Told room look (given f) g → IsRead room (read_call v look t) look t (record { given = g; used = m })
+      read-file {k} {j} {m} n z s {f} a d = record {
+        inside = s.inside;
+        rest = rest;
+        told = rw (file-is ∙ ap (λ z. raw_content (opened v (without_slash z))) (sym path-is) ∙ ap raw_content a ∙ given-is f) d;
       }
-    where
-      tail : take (length t - (i + 1)) (drop (i + 1) t) ≡ drop (i + 1) t
-      tail = tail-part t (i + 1)
+        where
+          behind : (expression look (drop (i + 1) t)).1 ≡ drop (i + 1 + k) t
+          behind = (rw (tail-part t (i + 1)) at n.rest) ∙ drop-drop k (i + 1) t
 
-      behind : (expression look (drop (i + 1) t)).1 ≡ drop (i + 1 + k) t
-      behind = ap (λ z. (expression look z).1) (sym tail) ∙ w.rest ∙ ap (drop k) tail ∙ drop-drop k (i + 1) t
-
-      reads : read_call v look (drop at t) ≡ (raw_content (opened v (without_slash (expression look (take (length t - (i + 1)) (drop (i + 1) t))).0)), drop m t)
-      reads = unfold read_call ◌>>=◌ ◌>>◌ if_r ret in (rw (l.rest, (sees-the "(" q e).says, (skips-at t i (q.there e)).rest, behind, x.rest, y.rest, tail) refl)
+          rest : (read_call v look t).1 ≡ drop m t
+          rest = unfold read_call ◌>>=◌ ◌>>◌ if_r ret in (rw (l.rest, (sees-the "(" q e).says, (skips-at t i (q.there e)).rest, behind, z.rest, s.rest) refl)
 
 -- The content, by what the scans gave.
-module _ {room : ℕ} (v : View) (look : Lookup) {b z t : List ℕ} {i : ℕ} (h : i ≤ length t) {c : Bool} (q : Sees (byte_is 34) t i c) where
-  pub content-expression : c ≡ true → {m : Measured} → MeasuresRead room (expression look (take (length t - i) (drop i t))) (take (length t - i) (drop i t)) m → Contents room (content v look (drop i t)) look b z t i (record { content = Given (Expression i); size = m.size; at = i + m.used })
-  unfolding content as_content Sized value_text Inside ◌>>=◌ ◌>>◌ if_r ret
-  content-expression e {m} w =
-      let u : MeasuresRead room (expression look (drop i t)) (drop i t) m = rw tail-part at w in
-      record { on = omega arith; inside = omega (arith, simp length-drop at u.inside); sized = (h, u.size); says = rw ((sees-the "\"" q e).says, u.rest ∙ drop-drop m.used i t) refl }
+module _ (v : View) (look : Lookup) {t : List ℕ} {c : Bool} (q : Sees (byte_is 34) t 0 c) where
+  pub content-expression : c ≡ true → {room : ℕ} {b : Bor (List ℕ)} → b.now ≡ t → {m : Measured} → MeasuresRead room (expression look t) t m → Reads room (content v look t) look t (Ok (record { given = Some (record { content = Expression b; size = m.size }); used = m.used }))
+  unfolding content content_text Told ◌>>=◌ ◌>>◌ if_r ret
+  content-expression e h w = record {
+    inside = w.inside;
+    rest = rw (sees-the "\"" q e).says w.rest;
+    told = (rw ((sees-the "\"" q e).says, h) refl, rw h w.size);
+  }
 
-  module _ (e : c ≡ false) {d : Bool} (m : Starts (bytes "read") t i d) where
-    pub content-read : d ≡ true → {r : ContentRead} → Contents room (read_call v look (drop (i + 4) t)) look b z t (i + 4) r → Contents room (content v look (drop i t)) look b z t i r
+  module _ (e : c ≡ false) {d : Bool} (m : Starts (bytes "read") t 0 d) where
+    call-is : d ≡ true → content v look t ≡ read_call v look (drop 4 t)
     unfolding content ◌>>=◌ ◌>>◌ if_r ret
-    content-read y w = record { on = omega (arith, w.on); inside = w.inside; sized = w.sized; says = rw ((sees-the "\"" q e).says, mark-yes m y) w.says }
+    call-is y = rw ((sees-the "\"" q e).says, mark-yes m y) refl
 
-    pub content-reference : d ≡ false → {k : ℕ} → Spans run_byte t i k → {x y : ℕ} {s : Measure} → Places z (text_of (look (underscored (part t i k)))) x y → Measures room (part z x y) s → Contents room (content v look (drop i t)) look b z t i (record { content = Given (Found x y); size = s; at = k })
-    unfolding content reference as_content Sized value_text Inside ◌>>=◌ ◌>>◌ if_r ret
-    content-reference y r p s = record { on = r.on; inside = r.inside; sized = ((p.on, p.inside), s); says = rw ((sees-the "\"" q e).says, mark-no m y, r.took, r.rest, p.text) refl }
+    pub content-read : d ≡ true → {room : ℕ} {r : ContentRead} → IsRead room (read_call v look (part t 4 (length t))) look (part t 4 (length t)) r → Reads room (content v look t) look t (Ok (record { given = r.given; used = 4 + r.used }))
+    content-read y {room} {r} w₀ =
+        let w : IsRead room (read_call v look (drop 4 t)) look (drop 4 t) r = rw (tail-part t 4) at w₀ in
+        record {
+          inside = omega (arith, m.there y, w.inside, length-drop 4 t);
+          rest = ap (λ z. z.1) (call-is y) ∙ w.rest ∙ drop-drop r.used 4 t;
+          told = rw (call-is y) w.told;
+        }
 
--- PUTTING a content's text, by where it stands.
-module _ (b z t : List ℕ) {v : Value} (i : Inside b z t v) where
-  pub inside-expression : {a : ℕ} → v ≡ Expression a → a ≤ length t
-  unfolding Inside
-  inside-expression e = rw e at i
+    pub content-refused : d ≡ true → {k : Refusal} → (read_call v look (part t 4 (length t))).0 ≡ no_content (number k) → (room : ℕ) {r : Result ContentRead Refusal} → r ≡ Err k → Reads room (content v look t) look t r
+    content-refused y w room e = rw e (ap (λ z. z.0) (call-is y) ∙ rw (tail-part t 4) at w)
 
-  pub inside_found : {a e : ℕ} → v ≡ Found a e → (a ≤ e) × (e ≤ length z)
-  unfolding Inside
-  inside_found q = rw q at i
-
-  pub inside-file : {a e : ℕ} → v ≡ File a e → (a ≤ e) × (e ≤ length b)
-  unfolding Inside
-  inside-file q = rw q at i
-
-module _ (look : Lookup) (b z t : List ℕ) {v : Value} {room : ℕ} {o : List ℕ} {p : ℕ} {c : List ℕ} {q : ℕ} where
-  pub put-expression : {a k : ℕ} → v ≡ Expression a → Wrote room (expression look (take (length t - a) (drop a t))) (take (length t - a) (drop a t)) o p c k q → Put room o p (value_text look b z t v) c q
-  unfolding value_text
-  put-expression e w = rw e (rw tail-part at w.put)
-
-  pub put-found : {a e : ℕ} → v ≡ Found a e → Put room o p (part z a e) c q → Put room o p (value_text look b z t v) c q
-  unfolding value_text
-  put-found e w = rw e w
-
-  pub put-file : {a e : ℕ} → v ≡ File a e → Put room o p (part b a e) c q → Put room o p (value_text look b z t v) c q
-  unfolding value_text
-  put-file e w = rw e w
+    pub content-reference : d ≡ false → {k : ℕ} → Spans run_byte t 0 k → {x : List ℕ} → x ≡ text_of (look (underscored (take k t))) → {room : ℕ} {g : Option Given} → Told room look (given x) g → Reads room (content v look t) look t (Ok (record { given = g; used = k }))
+    unfolding content reference ◌>>=◌ ◌>>◌ if_r ret
+    content-reference y r X w = record {
+      inside = r.inside;
+      rest = rw ((sees-the "\"" q e).says, mark-no m y, r.rest) refl;
+      told = rw ((sees-the "\"" q e).says, mark-no m y, r.took, sub-zero, sym X) w;
+    }

@@ -9,7 +9,6 @@ use Rattle.std.proofs.Math.ListN.{length}
 use Rattle.std.proofs.Math.Seq.{sets}
 use Rattle.buffers.specs.Laws.{sets-append}
 use Rattle.rules.specs.Sheet.{Value, text, nothing, dictionary, word16_bytes, field_bytes, field_mask, value_mask}
-use Rattle.sheet.specs.Order.{underscore_if, underscored_if, underscored_if-length, underscored_if_get_d}
 
 -- Bytes of a field of a length, with its length.
 unfoldable pub wide : ℕ → ℕ
@@ -123,14 +122,13 @@ unfolding word16_bytes
 low_first k h = let e : k / 256 % 256 ≡ k / 256 = omega arith in rw e refl
 
 -- One byte more of a name.
-pub name-step : (b : List ℕ) (at i : ℕ) (f : Bool) (t : List ℕ) {x : ℕ} → i < length t → x ≡ underscore_if f (get_or t i 0) → sets (put b (at + i) x) (at + (i + 1)) (drop (i + 1) (underscored_if f t)) ≡ sets b (at + i) (drop i (underscored_if f t))
-name-step b at i f t h e =
+pub name-step : (b : List ℕ) (at i : ℕ) (t : List ℕ) {x : ℕ} → i < length t → x ≡ get_or t i 0 → sets (put b (at + i) x) (at + (i + 1)) (drop (i + 1) t) ≡ sets b (at + i) (drop i t)
+name-step b at i t h e =
     let u : at + (i + 1) ≡ suc (at + i) = omega arith in
-    let v : drop i (underscored_if f t) ≡ underscore_if f (get_or t i 0) ∷ drop (suc i) (underscored_if f t) = drop-cons (underscored_if f t) i 0 (omega (arith, underscored_if-length f t)) ∙ ap (λ z. z ∷ drop (suc i) (underscored_if f t)) (underscored_if_get_d f t i h) in
-    rw (u, add-one, v, e) refl
+    rw (u, add-one, drop-cons t i 0, e) refl
 
-pub name-end : (b : List ℕ) (at i : ℕ) (f : Bool) (t : List ℕ) → length t ≤ i → sets b at (drop i (underscored_if f t)) ≡ b
-name-end b at i f t h = rw (drop_of_length-le (underscored_if f t) {i = i} (omega (arith, underscored_if-length f t))) refl
+pub name-end : (b : List ℕ) (at i : ℕ) (t : List ℕ) → length t ≤ i → sets b at (drop i t) ≡ b
+name-end b at i t h = rw (drop_of_length-le t {i = i} h) refl
 
 field-empty : (t : List ℕ) → length t ≡ 0 → field_bytes t ≡ []
 unfolding field_bytes
@@ -142,14 +140,12 @@ unfolding field_bytes
 field-full [] h = absurd (h refl)
 field-full (x ∷ xs) h = refl
 
-pub field-none : (b : List ℕ) (at : ℕ) (f : Bool) (t : List ℕ) → length t ≡ 0 → b ≡ sets b at (field_bytes (underscored_if f t))
-field-none b at f t h = rw (field-empty (underscored_if f t) (underscored_if-length f t ∙ h)) refl
+pub field-none : (b : List ℕ) (at : ℕ) (t : List ℕ) → length t ≡ 0 → b ≡ sets b at (field_bytes t)
+field-none b at t h = rw (field-empty t h) refl
 
-pub field-some : (b : List ℕ) (at : ℕ) (f : Bool) (t : List ℕ) {c d : List ℕ} → (length t ≡ 0 → ⊥) → c ≡ sets b at (word16_bytes (length t)) → d ≡ sets c (at + 2) (underscored_if f t) → d ≡ sets b at (field_bytes (underscored_if f t))
+pub field-some : (b : List ℕ) (at : ℕ) (t : List ℕ) {c d : List ℕ} → (length t ≡ 0 → ⊥) → c ≡ sets b at (word16_bytes (length t)) → d ≡ sets c (at + 2) t → d ≡ sets b at (field_bytes t)
 unfolding word16_bytes
-field-some b at f t {c} {d} h p q =
-    let e : field_bytes (underscored_if f t) ≡ word16_bytes (length t) ++ underscored_if f t = field-full (underscored_if f t) (λ z. h (sym (underscored_if-length f t) ∙ z)) ∙ ap (λ z. word16_bytes z ++ underscored_if f t) (underscored_if-length f t) in
-    q ∙ ap (λ z. sets z (at + 2) (underscored_if f t)) p ∙ sets-append b at (word16_bytes (length t)) (underscored_if f t) ∙ ap (sets b at) (sym e)
+field-some b at t {c} {d} h p q = q ∙ ap (λ z. sets z (at + 2) t) p ∙ sets-append b at (word16_bytes (length t)) t ∙ ap (sets b at) (sym (field-full t h))
 
 pub map-plain : (n bit : ℕ) → n ≡ 0 → bit ≡ map_no n bit
 unfolding map_no
@@ -172,19 +168,19 @@ unfolding map_no field_mask
 map-no [] bit = refl
 map-no (x ∷ xs) bit = rw (ne_eqb (suc (length xs)) 0 (λ e. omega arith)) refl
 
-module _ (b : List ℕ) (at : ℕ) (f : Bool) (t : List ℕ) {bit : ℕ} (g : IsBit bit) (count : ℕ) {m : ℕ} {c : List ℕ} (e : m ≡ map_no (length t) bit) (p : c ≡ sets (put b at m) (at + 1) (field_bytes (underscored_if f t))) where
-  begun : c ≡ sets b at ((field_mask 1 (underscored_if f t) + bit) ∷ field_bytes (underscored_if f t))
-  begun = p ∙ ap (λ z. sets (put b at z) (at + 1) (field_bytes (underscored_if f t))) (e ∙ ap (λ z. map_no z bit) (sym (underscored_if-length f t)) ∙ map-no (underscored_if f t) bit) ∙ rw add-one refl
+module _ (b : List ℕ) (at : ℕ) (t : List ℕ) {bit : ℕ} (g : IsBit bit) (count : ℕ) {m : ℕ} {c : List ℕ} (e : m ≡ map_no (length t) bit) (p : c ≡ sets (put b at m) (at + 1) (field_bytes t)) where
+  begun : c ≡ sets b at ((field_mask 1 t + bit) ∷ field_bytes t)
+  begun = p ∙ ap (λ z. sets (put b at z) (at + 1) (field_bytes t)) (e ∙ map-no t bit) ∙ rw add-one refl
 
-  pub opening-plain : bit_and bit 6 ≡ 0 → c ≡ sets b at (opening (underscored_if f t) bit count)
+  pub opening-plain : bit_and bit 6 ≡ 0 → c ≡ sets b at (opening t bit count)
   unfolding opening number
-  opening-plain h = begun ∙ rw (unnumbered g h, append-nil (field_bytes (underscored_if f t))) refl
+  opening-plain h = begun ∙ rw (unnumbered g h, append-nil (field_bytes t)) refl
 
-  pub opening-numbered : (bit_and bit 6 ≡ 0 → ⊥) → {k : ℕ} {d : List ℕ} → k ≡ wide (length t) → d ≡ sets c (at + 1 + k) (word16_bytes count) → d ≡ sets b at (opening (underscored_if f t) bit count)
+  pub opening-numbered : (bit_and bit 6 ≡ 0 → ⊥) → {k : ℕ} {d : List ℕ} → k ≡ wide (length t) → d ≡ sets c (at + 1 + k) (word16_bytes count) → d ≡ sets b at (opening t bit count)
   unfolding opening number
   opening-numbered h {k} {d} w q =
-      let x = (field_mask 1 (underscored_if f t) + bit) ∷ field_bytes (underscored_if f t) in
-      let l : at + 1 + k ≡ at + length x = omega (arith, field-length (underscored_if f t), ap wide (underscored_if-length f t)) in
+      let x = (field_mask 1 t + bit) ∷ field_bytes t in
+      let l : at + 1 + k ≡ at + length x = omega (arith, field-length t) in
       q ∙ ap (λ z. sets c z (word16_bytes count)) l ∙ ap (λ z. sets z (at + length x) (word16_bytes count)) begun ∙ sets-append b at x (word16_bytes count) ∙ rw (is-numbered g h) refl
 
 pub open_wide : (n bit : ℕ) → 1 + wide n ≤ open_len n bit

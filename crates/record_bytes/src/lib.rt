@@ -5,12 +5,12 @@ ghost use Rattle.std.specs.Prelude.{◌≡◌, ◌++◌, ◌+◌, ◌-◌, ◌�
 ghost use Rattle.std.proofs.lemmas.List.Edits.{sets};
 ghost use Rattle.scan.specs.Sets.{part};
 ghost use Rattle.rules.specs.Sheet.{word16_bytes, field_bytes};
-ghost use Rattle.sheet.specs.Order.{underscored_if};
+ghost use Rattle.sheet.specs.Name.{asked};
 ghost use Rattle.record_bytes.specs.Moves.{Arranged};
 ghost use Rattle.record_bytes.specs.Opening.{wide, open_len, opening, map_no, IsBit, Opens};
 
+use sheet::Name;
 use sheet::head::{DICTIONARY, NAME, TEXT};
-use sheet::lookup::underscored_if;
 
 // What stands of a value before its own bytes: its bit of the map byte, and the number that follows the name, a text's length or how many records a dictionary has.
 #[derive(Clone, Copy, Debug, PartialEq, Eq)]
@@ -20,6 +20,7 @@ pub struct Lead {
 }
 
 // How many bytes a field takes, with its length.
+#[tactic(auto, unfolding(crate::specs::Opening::wide))]
 fn sized(n: usize) -> usize
     requires { n ≤ 65535 }
     ensures { result ≡ wide n }
@@ -28,6 +29,7 @@ fn sized(n: usize) -> usize
 }
 
 // How many bytes of a record stand before its text or its records.
+#[tactic(auto, using(crate::specs::Opening::wide_ge))]
 pub fn opening_len(name: usize, bit: u8) -> usize
     requires { (name ≤ 65535) × IsBit bit }
     ensures { result ≡ open_len name bit }
@@ -50,26 +52,27 @@ fn put_number(buf: &mut [u8], at: usize, k: usize)
     buf[at + 1] = high;
 }
 
-// Writes a name; of a reference each `-` as `_`.
-fn put_name(buf: &mut [u8], at: usize, name: &[u8], reference: bool)
-    requires { at + length name.now ≤ length buf.old }
-    ensures { buf.new ≡ sets buf.old at (underscored_if reference name.now) }
+// Writes a name, as it is asked for.
+fn put_name(buf: &mut [u8], at: usize, name: Name<'_>)
+    requires { at + length (asked name) ≤ length buf.old }
+    ensures { buf.new ≡ sets buf.old at (asked name.entry) }
 {
-    for (i, x) in name.iter().enumerate() {
-        buf[at + i] = underscored_if(reference, *x);
+    for (i, x) in name.text().iter().enumerate() {
+        buf[at + i] = name.byte(*x);
     }
 }
 
 // Writes a name with its length, or nothing for the empty one.
-fn put_field(buf: &mut [u8], at: usize, name: &[u8], reference: bool)
-    requires { (length name.now ≤ 65535) × (at + wide (length name.now) ≤ length buf.old) }
-    ensures { buf.new ≡ sets buf.old at (field_bytes (underscored_if reference name.now)) }
+fn put_field(buf: &mut [u8], at: usize, name: Name<'_>)
+    requires { (length (asked name) ≤ 65535) × (at + wide (length (asked name)) ≤ length buf.old) }
+    ensures { buf.new ≡ sets buf.old at (field_bytes (asked name.entry)) }
 {
-    if name.len() == 0 {
+    let len = name.len();
+    if len == 0 {
         return;
     }
-    put_number(buf, at, name.len());
-    put_name(buf, at + 2, name, reference);
+    put_number(buf, at, len);
+    put_name(buf, at + 2, name);
 }
 
 // The map byte of a record.
@@ -81,14 +84,16 @@ fn map_of(name: usize, bit: u8) -> u8
 }
 
 // Writes a record up to its text or its records.
-pub fn put_opening(buf: &mut [u8], at: usize, name: &[u8], reference: bool, lead: Lead)
-    requires { Opens buf.old at (length name.now) lead.bit lead.count }
-    ensures { buf.new ≡ sets buf.old at (opening (underscored_if reference name.now) lead.bit lead.count) }
+#[tactic(auto, using(crate::specs::Opening::open_wide))]
+pub fn put_opening(buf: &mut [u8], at: usize, name: Name<'_>, lead: Lead)
+    requires { Opens buf.old at (length (asked name)) lead.bit lead.count }
+    ensures { buf.new ≡ sets buf.old at (opening (asked name.entry) lead.bit lead.count) }
 {
-    buf[at] = map_of(name.len(), lead.bit);
-    put_field(buf, at + 1, name, reference);
+    let len = name.len();
+    buf[at] = map_of(len, lead.bit);
+    put_field(buf, at + 1, name);
     if lead.bit & (TEXT | DICTIONARY) != 0 {
-        put_number(buf, at + 1 + sized(name.len()), lead.count);
+        put_number(buf, at + 1 + sized(len), lead.count);
     }
 }
 
@@ -97,14 +102,10 @@ pub fn shift(buf: &mut [u8], from: usize, end: usize, to: usize)
     requires { (from ≤ end) × (end ≤ length buf.old) × (to + (end - from) ≤ length buf.old) }
     ensures { buf.new ≡ sets buf.old to (part buf.old from end) }
 {
-    if to == from {
-        return;
+    // What a value of the same length leaves in its place is not copied onto itself.
+    if to != from {
+        buf.copy_within(from..end, to);
     }
-    if to <= from {
-        buffers::move_down(buf, to, from, end);
-        return;
-    }
-    buffers::move_up(buf, from, end, to - from);
 }
 
 // Puts the bytes from a to b at a place, and behind them the sheet's tail, from `to` to n. Either may lie in the other's way.

@@ -1,4 +1,4 @@
-pub mod Outcome
+pub mod Sheets
 pub mod Includes
 pub mod Expansion
 pub mod Pass

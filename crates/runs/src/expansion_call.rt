@@ -1,8 +1,19 @@
 // The expansion call (01, section 5).
 ghost use Rattle.runs.specs.Expansion.{ExpandsText};
 
-use crate::{Outcome, refused};
-use arguments::{refusal, sheet_limit};
+use crate::store_sheet;
+use arguments::{check, sheet_limit};
+use binding::sheet_buffer::SheetBuffer;
+use buffers::writer::Writer;
+use expansion::expand;
+use refusal::Refusal;
+
+// The lengths of the text and of the sheet that stand in the buffers of an expansion call.
+#[derive(Clone, Copy)]
+pub struct Expanded {
+    pub len: usize,
+    pub sheet: usize,
+}
 
 // A text expanded, and the sheet with the text's bindings: 2, 3, 6, 9 for the sheet given, then in reading 9, 11, 8, 4, 5, 6.
 pub fn preprocess_typst(
@@ -11,24 +22,19 @@ pub fn preprocess_typst(
     sheet: &[u8],
     out: &mut [u8],
     left: &mut [u8],
-) -> Outcome
+) -> Result<Expanded, Refusal>
     ensures { ExpandsText bundle.now text.now sheet.now out.old out.new left.old left.new result }
 {
     let limit = sheet_limit(left.len());
-    let number = refusal(bundle, b"", text, sheet, limit);
-    if number != 0 {
-        return refused(number);
-    }
-    buffers::store(left, 0, sheet);
-    let room = out.len();
-    let r = expansion::expand(bundle, text, out, room, 0, left, sheet.len(), limit, 11);
-    if !r.ok {
-        return refused(r.number);
-    }
-    Outcome {
-        number: 0,
-        len: r.next,
-        sheet: r.len,
-        closed: false,
-    }
+    let given = check(bundle, b"", text, sheet, limit)?;
+    let mut records = store_sheet(left, limit, &given.sheet);
+    let mut w = Writer::new(out, Refusal::Output);
+    let mut bound = SheetBuffer {
+        records: &mut records,
+    };
+    expand(&given.bundle, text, &mut w, &mut bound)?;
+    Ok(Expanded {
+        len: w.at,
+        sheet: records.len,
+    })
 }

@@ -2,30 +2,26 @@
 // of the buffers. What stands behind the results is not cleared.
 #![tactic(auto)]
 
-ghost use Rattle.std.specs.Prelude.{◌≡◌};
-ghost use Rattle.runs.specs.Outcome.{refused_outcome};
+ghost use Rattle.std.specs.Prelude.{◌≤◌, length};
+ghost use Rattle.runs.specs.Sheets.{Starts};
+
+use binding::buffer::RecordBuffer;
+use sheet::Sheet;
 
 pub mod expansion_call;
 pub mod include_call;
 pub mod pass_call;
 
-// What a call came to: its number; the lengths of the text and of the sheet that stand in its buffers; is the text closed?
-#[derive(Clone, Copy)]
-pub struct Outcome {
-    pub number: u8,
-    pub len: usize,
-    pub sheet: usize,
-    pub closed: bool,
-}
-
-// A refused call.
-pub fn refused(number: u8) -> Outcome
-    ensures { result ≡ refused_outcome number }
+// A sheet, stored at the start of a buffer, where it may grow up to a limit.
+pub fn store_sheet<'a>(left: &'a mut [u8], limit: usize, sheet: &Sheet<'_>) -> RecordBuffer<'a>
+    requires { (length sheet.now ≤ limit) × (limit ≤ length left.old) × (limit ≤ 65535) }
+    ensures { Starts left.entry limit sheet.now result }
 {
-    Outcome {
-        number: number,
-        len: 0,
-        sheet: 0,
-        closed: false,
+    let bytes = sheet.bytes();
+    buffers::store(left, 0, bytes);
+    RecordBuffer {
+        bytes: left,
+        len: bytes.len(),
+        limit,
     }
 }

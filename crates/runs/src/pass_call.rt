@@ -3,10 +3,20 @@ ghost use Rattle.std.specs.Prelude.{◌≡◌};
 ghost use Rattle.rules.specs.Run.{ends_in_newline};
 ghost use Rattle.runs.specs.Pass.{Begins, Passes};
 
-use crate::{Outcome, refused};
-use arguments::{refusal, sheet_limit};
+use crate::store_sheet;
+use arguments::{Given, check, sheet_limit};
+use binding::sheet_buffer::SheetBuffer;
 use buffers::writer::Writer;
+use expansion::expand;
 use refusal::Refusal;
+
+// The lengths of the text and of the sheet that stand in the buffers of a pass; is the text closed?
+#[derive(Clone, Copy)]
+pub struct Passed {
+    pub len: usize,
+    pub sheet: usize,
+    pub closed: bool,
+}
 
 // Is a text empty, or is its last byte a newline?
 fn ends_in_newline(text: &[u8]) -> bool
@@ -21,51 +31,31 @@ fn ends_in_newline(text: &[u8]) -> bool
 
 // The two runs of a pass whose arguments keep the rules.
 fn run(
-    bundle: &[u8],
+    given: &Given<'_>,
     folder: &[u8],
     text: &[u8],
-    sheet: &[u8],
     middle: &mut [u8],
     out: &mut [u8],
     left: &mut [u8],
     limit: usize,
-) -> Outcome
-    requires { Begins bundle.now folder.now text.now sheet.now left.old limit }
-    ensures { Passes bundle.now folder.now text.now sheet.now middle.old middle.new out.old out.new left.old left.new result }
+) -> Result<Passed, Refusal>
+    requires { Begins given.now.bundle folder.now text.now given.now.sheet left.old limit }
+    ensures { Passes given.now.bundle folder.now text.now given.now.sheet middle.old middle.new out.old out.new left.old left.new result }
 {
-    let mut w = Writer {
-        room: middle.len(),
-        out: middle,
-        at: 0,
-        full: Refusal::Middle,
+    let mut first = Writer::new(middle, Refusal::Middle);
+    let whole = includes::resolve(&given.bundle, folder, text, &mut first, 6)?;
+    let end = first.at;
+    let mut records = store_sheet(left, limit, &given.sheet);
+    let mut w = Writer::new(out, Refusal::Output);
+    let mut bound = SheetBuffer {
+        records: &mut records,
     };
-    let whole = match includes::resolve(bundle, folder, text, &mut w, 6) {
-        Err(refusal) => return refused(u8::from(refusal)),
-        Ok(whole) => whole,
-    };
-    let end = w.at;
-    buffers::store(left, 0, sheet);
-    let space = out.len();
-    let e = expansion::expand(
-        bundle,
-        &middle[..end],
-        out,
-        space,
-        0,
-        left,
-        sheet.len(),
-        limit,
-        11,
-    );
-    if !e.ok {
-        return refused(e.number);
-    }
-    Outcome {
-        number: 0,
-        len: e.next,
-        sheet: e.len,
-        closed: ends_in_newline(text) & whole & e.whole,
-    }
+    let expanded = expand(&given.bundle, &middle[..end], &mut w, &mut bound)?;
+    Ok(Passed {
+        len: w.at,
+        sheet: records.len,
+        closed: ends_in_newline(text) & whole & expanded,
+    })
 }
 
 // A pass: the arguments (2, 3, 4, 6, 9 for the sheet given), then in reading the includes with 10, and the expansion with 9 and 11.
@@ -77,13 +67,10 @@ pub fn pass(
     middle: &mut [u8],
     out: &mut [u8],
     left: &mut [u8],
-) -> Outcome
+) -> Result<Passed, Refusal>
     ensures { Passes bundle.now folder.now text.now sheet.now middle.old middle.new out.old out.new left.old left.new result }
 {
     let limit = sheet_limit(left.len());
-    let number = refusal(bundle, folder, text, sheet, limit);
-    if number != 0 {
-        return refused(number);
-    }
-    run(bundle, folder, text, sheet, middle, out, left, limit)
+    let given = check(bundle, folder, text, sheet, limit)?;
+    run(&given, folder, text, middle, out, left, limit)
 }

@@ -1,7 +1,7 @@
 -- Scanning at a place of a text.
 use Rattle.std.specs.Prelude.{◌≡◌, List, [], ◌∷◌, ◌++◌, Bool, true, false, not, ltb, eqb, length, take, get_or}
 use Rattle.std.proofs.Math.Path.{refl}
-use Rattle.std.proofs.Common.{sym, ap, ◌∙◌, append_assoc, append-nil, true≢false, add-zero, drop_of_length-le, length-append, length-drop, drop-drop, take-add, take_all, length-take-le}
+use Rattle.std.proofs.Common.{sym, ap, ◌∙◌, append_assoc, true≢false, drop_of_length-le, length-append, length-drop, drop-drop, take-add, take_all}
 use Rattle.std.proofs.lemmas.Bool.{false≢true}
 use Prim.Native.Char.{Char, code}
 use Prim.Native.Nat.{ℕ, zero, suc, ◌+◌, ◌-◌, ◌≤◌, ◌<◌}
@@ -37,10 +37,6 @@ seen s e = rw e at s
 pub sees-the : (c : Char) {t : List ℕ} {i : ℕ} {r v : Bool} → Sees (byte_is (code c)) t i r → r ≡ v → Sees (the c) t i v
 unfolding the
 sees-the c s e = rw e at s
-
--- What is seen is what the byte there is.
-pub seen-byte : {p : ℕ → Bool} {t : List ℕ} {i : ℕ} {r v : Bool} → Sees p t i r → r ≡ v → i < length t → p (get_or t i 0) ≡ v
-seen-byte {p} {t} {i} s e h = ap (λ z. z.0) (sym (sees-at p t i h) ∙ s.says) ∙ e
 
 -- A byte that is another one than c is not c; any other byte is.
 pub but-yes : (c : Char) (x : ℕ) → but c x ≡ true → the c x ≡ false
@@ -101,9 +97,6 @@ get_or-there : (t : List ℕ) (at i : ℕ) → at ≤ i → i < length t → tak
 get_or-there t at i h k = let e : suc i - i ≡ 1 = omega arith in cut_at t at i (suc i) h (omega arith) ∙ rw (e, drop-cons t i 0) refl
 
 module _ (p : ℕ → Bool) (t : List ℕ) (at : ℕ) where
-  pub spanning-start : at ≤ length t → Spanning p t at at
-  spanning-start h = let z : at - at ≡ 0 = omega arith in record { on = omega arith; inside = h; took = rw z refl; rest = refl }
-
   module _ (i : ℕ) (s : Spanning p t at i) where
     pub spanning-on : i < length t → p (get_or t i 0) ≡ true → Spanning p t at (i + 1)
     unfolding span
@@ -115,18 +108,6 @@ module _ (p : ℕ → Bool) (t : List ℕ) (at : ℕ) where
           took = s.took ∙ rw (k, get_or-there t at i s.on h, append_assoc) refl;
           rest = s.rest ∙ rw k refl;
         })
-
-    pub spanning-off : i < length t → p (get_or t i 0) ≡ false → Spans p t at i
-    unfolding span
-    spanning-off h e =
-        let k : span p (drop i t) ≡ ([], drop i t) = rw (drop-cons t i 0) (rw (e, span) refl) in
-        record { on = s.on; inside = s.inside; took = s.took ∙ rw (k, append-nil) refl; rest = s.rest ∙ rw k refl }
-
-    pub spanning-end : length t ≤ i → Spans p t at i
-    unfolding span
-    spanning-end h =
-        let k : span p (drop i t) ≡ ([], drop i t) = rw (drop_of_length-le t h) refl in
-        record { on = s.on; inside = s.inside; took = s.took ∙ rw (k, append-nil) refl; rest = s.rest ∙ rw k refl }
 
     -- what is left of it is a stretch from i
     pub spanning-then : {j : ℕ} → Spans p t i j → Spans p t at j
@@ -158,9 +139,6 @@ pub record Matching (m t : List ℕ) (at i : ℕ) : Type 0 where
   pub same : prefix m (drop at t) ≡ prefix (drop i m) (drop (at + i) t)
 
 module _ (m t : List ℕ) (at : ℕ) where
-  pub matching-start : at ≤ length t → Matching m t at 0
-  matching-start h = record { short = omega arith; inside = omega arith; same = rw add-zero refl }
-
   module _ (i : ℕ) (s : Matching m t at i) where
     pub matching-no : i < length m → at + i < length t → (get_or m i 0 ≡ get_or t (at + i) 0 → ⊥) → Starts m t at false
     unfolding prefix
@@ -222,15 +200,6 @@ unfolding span all
 span-all p [] h = refl
 span-all p (x ∷ xs) h = none-all p x xs (p x) refl h (span-all p xs)
 
-all_none : (p : ℕ → Bool) (x : ℕ) (xs : List ℕ) → all p (x ∷ xs) ≡ true → (span p xs).1 ≡ [] → (span p (x ∷ xs)).1 ≡ []
-unfolding span all
-all_none p x xs h ih = rw (and_l (p x) (all p xs) h, span) ih
-
-pub all-span : (p : ℕ → Bool) (t : List ℕ) → all p t ≡ true → (span p t).1 ≡ []
-unfolding span all
-all-span p [] h = refl
-all-span p (x ∷ xs) h = all_none p x xs h (all-span p xs (and_r (p x) (all p xs) h))
-
 pub drop-take : (a n : ℕ) (l : List ℕ) → drop a (take n l) ≡ take (n - a) (drop a l)
 drop-take zero n l = rw sub-zero
 drop-take (suc a) zero l = let z : 0 - suc a ≡ 0 = omega arith in rw z refl
@@ -239,7 +208,3 @@ drop-take (suc a) (suc n) (x ∷ xs) = rw suc-sub-suc (drop-take a n xs)
 
 pub tail-part : (t : List ℕ) (a : ℕ) → take (length t - a) (drop a t) ≡ drop a t
 tail-part t a = take_all (length t - a) (drop a t) (omega (arith, length-drop a t))
-
--- A path's start in the array that holds it.
-pub start-length : (n : ℕ) (x : List ℕ) → length x ≡ 255 → n ≤ 255 → n ≡ length (take n x)
-start-length n x e h = sym (length-take-le n x (omega arith))

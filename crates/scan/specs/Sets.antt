@@ -1,6 +1,7 @@
 -- The byte sets, and what the scanning functions promise.
 use Rattle.std.specs.Prelude.{◌≡◌, List, Bool, true, not, ◌&&◌, ℕ, ◌+◌, ◌-◌, ◌≤◌, ◌<◌, eqb, length, take, drop}
 use Rattle.rules.specs.Reader.{span, sees, skip, prefix, the, either, but}
+use Rattle.scan.specs.declared.Range.{Range}
 use Rattle.scan.specs.declared.Set.{Set}
 use Rattle.scan.specs.declared.Set.TheVariants.{Blank, LineBlank, Letter, Word, Name, Run, CommaOrBlank, ColonOrBlank, EqualsOrLineBlank, EqualsOrBlank, UnderscoreOrLetter, Space, NotParen, NotQuoteNorBackslash, NotDot, NotSlash}
 use Rattle.rules.specs.Bytes.{ascii, blank, line_blank, letter, word, name_byte, run_byte}
@@ -44,6 +45,11 @@ not_byte c x = not (eqb x c)
 -- The part of a text from a to b.
 abbrev pub part : List ℕ → ℕ → ℕ → List ℕ
 part t a b = take (b - a) (drop a t)
+
+-- A range lies inside a text.
+pub record Within (t : List ℕ) (r : Range) : Type 0 where
+  pub order : r.from ≤ r.to
+  pub inside : r.to ≤ length t
 
 -- The stretch of t from i by p goes to j.
 pub record Spans (p : ℕ → Bool) (t : List ℕ) (i j : ℕ) : Type 0 where

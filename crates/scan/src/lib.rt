@@ -6,6 +6,8 @@ ghost use Rattle.rules.specs.Reader.{all, same};
 ghost use Rattle.rules.specs.Bytes.{ascii, blank, letter, word};
 ghost use Rattle.scan.specs.Sets.{member, byte_is, not_byte, Spans, Sees, Starts, Skips};
 
+pub mod fields;
+
 // A part of a text, from a place up to another.
 #[derive(Clone, Copy, Debug, PartialEq, Eq)]
 pub struct Range {

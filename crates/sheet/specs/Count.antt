@@ -2,7 +2,7 @@
 use Rattle.std.specs.Prelude.{◌≡◌, List, ℕ, suc, ◌+◌, ◌≤◌, ◌<◌, length}
 use Rattle.std.proofs.Common.{arith}
 use Rattle.rules.specs.Sheet.{Value, Records, end, rec, encode, count}
-use Rattle.sheet.specs.Parts.{Part, part-all}
+use Rattle.sheet.specs.Parts.{Part}
 use Rattle.sheet.specs.Items.{At}
 
 -- k records stand before i.
@@ -19,9 +19,6 @@ pub record Counted (s : List ℕ) (r : Records) (i k : ℕ) : Type 0 where
   pub q : Records
   pub part : Part s i (encode (rec m w q)) (length s)
   pub sum : k + suc (count q) ≡ count r
-
-pub count-start : {s : List ℕ} {r : Records} → s ≡ encode r → Counting s r 0 0
-count-start {s} {r} e = record { left = r; part = part-all e; sum = omega arith; few = omega arith }
 
 pub count_next : {s : List ℕ} {r : Records} {i k : ℕ} → Counting s r i k → i < length s → Counted s r i k
 unfolding encode count

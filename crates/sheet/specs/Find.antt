@@ -47,6 +47,11 @@ unfoldable pub Gives : List ℕ → Option Value → RustOption Found → Type 0
 Gives s x None = x ≡ none
 Gives s x (Some f) = (v : Value) × (x ≡ some v) × Tells s v f
 
+-- There is such a value, or it is missing.
+pub record HasValue (s : List ℕ) (f : RustOption Found) : Type 0 where
+  pub x : Option Value
+  pub gives : Gives s x f
+
 pub gives_one : (s : List ℕ) (x : Option Value) {o : RustOption Found} → Gives s x o → {f : Found} → o ≡ Some f → (v : Value) × (x ≡ some v) × Tells s v f
 unfolding Gives
 gives_one s x g e = rw e at g
@@ -121,9 +126,6 @@ module _ {s : List ℕ} {i : ℕ} {n : List ℕ} {v : Value} {r : Records} {j : 
 module _ {s : List ℕ} {v : Value} {o : Item} (d : Body s v o) where
   pub body-holding : Holding s o.next o.count (inner v) (o.next + length (encode (inner v)))
   body-holding = record { number = d.number; part = d.part }
-
-  pub body_has : Has s o.next o.count
-  body_has = record { r = inner v; j = o.next + length (encode (inner v)); holds = body-holding }
 
 pub tells_nothing : {s : List ℕ} (v : Value) {o : Item} → Body s v o → o.kind ≡ OfNothing → Tells s v Nothing
 unfolding shape_kind lead Tells
@@ -231,9 +233,9 @@ seek_end {s} {i} {e} {r} {name} k h = go k.left.r k.left.part k.same
     go end p f = f
     go (rec n v q) p f = absurd (omega (arith, p.ends))
 
-module _ {s : List ℕ} {i e : ℕ} {r : Records} {name : List ℕ} (k : Sought s i e r name) {a b : ℕ} {c : Ordering} (p : Part s a k.n b) (h : c ≡ slice_cmp nat_cmp (part s a b) name) where
+module _ {s : List ℕ} {i e : ℕ} {r : Records} {name : List ℕ} (k : Sought s i e r name) {a : List ℕ} {c : Ordering} (p : a ≡ k.n) (h : c ≡ slice_cmp nat_cmp a name) where
   order_is : slice_cmp nat_cmp k.n name ≡ c
-  order_is = sym (h ∙ ap (λ z. slice_cmp nat_cmp z name) (part_slice p))
+  order_is = sym (h ∙ ap (λ z. slice_cmp nat_cmp z name) p)
 
   pub seek_found : (f : Found) → c ≡ Equal → Tells s k.v f → Gives s (get r name) (Some f)
   unfolding Gives

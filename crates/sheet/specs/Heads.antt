@@ -1,7 +1,7 @@
 -- The head of a record (01, section 2): all of it but the records that a dictionary holds.
-use Rattle.std.specs.Prelude.{◌≡◌, List, [], Bool, true, false, ◌&&◌, ◌||◌, ℕ, zero, suc, ◌+◌, ◌*◌, ◌/◌, ◌%◌, ◌-◌, ◌≤◌, ◌<◌, ltb, length, take, drop}
+use Rattle.std.specs.Prelude.{◌≡◌, List, [], Bool, true, false, ◌&&◌, ◌||◌, ℕ, zero, suc, ◌+◌, ◌*◌, ◌/◌, ◌%◌, ◌-◌, ◌≤◌, ◌<◌, ltb, length, drop}
 use Rattle.std.proofs.Math.Path.{refl}
-use Rattle.std.proofs.Common.{sym, ap, ◌∙◌, add-one, length-drop, drop_of_length-le, drop-cons, drop-drop, eq-eqb, ne_eqb, eqb-true, ltb-true, ltb-false}
+use Rattle.std.proofs.Common.{ap, ◌∙◌, add-one, drop_of_length-le, drop-cons, eq-eqb, ne_eqb, eqb-true, ltb-true, ltb-false}
 use Rattle.std.proofs.Math.Option.{Option, none, some}
 use native.Mathlib.Omega.{arith}
 use Rattle.std.specs.Int.Bits.{bit_and}
@@ -10,11 +10,12 @@ use Rattle.std.proofs.Math.Dec.{eqb}
 use Rattle.std.proofs.Math.ListN.{get_or}
 use Rattle.std.proofs.lemmas.Bool.{eqb-false}
 use Rattle.scan.specs.Sets.{part}
-use Rattle.rules.specs.Reader.{empty}
-use Rattle.rules.specs.Layout.{Parser, bind, ◌>>=◌, ◌>>◌, pure, broken, require, bit, byte, word16, take_bytes, field, field_if}
+use Rattle.scan.specs.Fields.{IsField}
+use Rattle.rules.specs.Layout.{Parser, bind, ◌>>=◌, pure, broken, bit, byte, word16, field, field_if}
 use Rattle.rules.proofs.Laws.Bool.{or_elim, or-false-l, or-false-r}
-use Rattle.rules.proofs.Laws.Layout.{word-at, word_end, takes, takes-short, take-some}
+use Rattle.rules.proofs.Laws.Layout.{word_end}
 use Rattle.std.specs.Prelude.{Option as RustOption, Some, None}
+use Rattle.std.specs.Borrow.{Bor}
 use Rattle.scan.specs.declared.Range.{Range}
 use Rattle.sheet.specs.declared.head.Kind.{Kind}
 use Rattle.sheet.specs.declared.head.Kind.TheVariants.{Nothing, Text, Dictionary}
@@ -69,21 +70,6 @@ head = do
 unfoldable pub good_map : ℕ → Bool
 good_map m = ((eqb (m / 2) 0 || eqb (m / 2) 1) || eqb (m / 2) 2) || eqb (m / 2) 4
 
--- A 16-bit number, low byte first.
-abbrev pub word_at : List ℕ → ℕ → ℕ
-word_at s at = get_or s at 0 + 256 * get_or s (at + 1) 0
-
--- The text of the field at a place is r.
-pub record InField (s : List ℕ) (at : ℕ) (r : Range) : Type 0 where
-  pub begins : r.from ≡ at + 2
-  pub on : r.from ≤ r.to
-  pub inside : r.to ≤ length s
-  pub is : field word16 (drop at s) ≡ some (part s r.from r.to, drop r.to s)
-
-abbrev pub IsField : List ℕ → ℕ → RustOption Range → Type 0
-IsField s at None = field word16 (drop at s) ≡ none
-IsField s at (Some r) = InField s at r
-
 -- The item o tells of the value at a place, which the map byte m names.
 pub record IsValue (s : List ℕ) (m to : ℕ) (o : Item) : Type 0 where
   pub v : Shape
@@ -95,17 +81,15 @@ pub record IsValue (s : List ℕ) (m to : ℕ) (o : Item) : Type 0 where
   pub text : part s o.at o.next ≡ shape_text v
   pub number : o.count ≡ shape_count v
 
-unfoldable pub ValueReads : List ℕ → ℕ → Range → RustOption Item → Type 0
-ValueReads s m name None = shape (m / 2) (drop name.to s) ≡ none
-ValueReads s m name (Some o) = (o.name ≡ name) × IsValue s m name.to o
+unfoldable pub ValueReads : List ℕ → ℕ → List ℕ → ℕ → RustOption Item → Type 0
+ValueReads s m name at None = shape (m / 2) (drop at s) ≡ none
+ValueReads s m name at (Some o) = (o.name.now ≡ name) × IsValue s m at o
 
 -- The item o tells of the record at a place.
 pub record IsItem (s : List ℕ) (i : ℕ) (o : Item) : Type 0 where
   pub v : Shape
-  pub is : head (drop i s) ≡ some ((part s o.name.from o.name.to, v), drop o.next s)
-  pub past : i < o.name.from
-  pub name : o.name.from ≤ o.name.to
-  pub behind : o.name.to ≤ o.at
+  pub is : head (drop i s) ≡ some ((o.name.now, v), drop o.next s)
+  pub behind : i < o.at
   pub on : o.at ≤ o.next
   pub inside : o.next ≤ length s
   pub sort : o.kind ≡ shape_kind v
@@ -115,44 +99,6 @@ pub record IsItem (s : List ℕ) (i : ℕ) (o : Item) : Type 0 where
 unfoldable pub Reads : List ℕ → ℕ → RustOption Item → Type 0
 Reads s i None = head (drop i s) ≡ none
 Reads s i (Some o) = IsItem s i o
-
--- LAWS.
-field-empty : (b c : List ℕ) → word16 b ≡ some (0, c) → field word16 b ≡ none
-unfolding field take_bytes require empty pure broken bind ◌>>=◌ ◌>>◌
-field-empty b c e = rw e refl
-
-field-long : (b c : List ℕ) (n : ℕ) → word16 b ≡ some (n, c) → length c < n → field word16 b ≡ none
-unfolding field bind ◌>>=◌ ◌>>◌
-field-long b c n e h = rw e (rw (takes-short n c h) refl)
-
-field-some : (b c : List ℕ) (n : ℕ) → word16 b ≡ some (n, c) → n ≤ length c → (n ≡ 0 → ⊥) → field word16 b ≡ some (take n c, drop n c)
-unfolding field require pure bind ◌>>=◌ ◌>>◌
-field-some b c n e h k = rw e (rw (takes n c h) (rw (take-some n c (omega (arith, k)) h) refl))
-
--- What `field` answers.
-pub field-short : (s : List ℕ) (at : ℕ) → length s - at < 2 → IsField s at None
-unfolding field bind ◌>>=◌
-field-short s at h = rw (word_end s at (omega arith)) refl
-
-module _ (s : List ℕ) (at n : ℕ) (e : n ≡ word_at s at) (g : at + 2 ≤ length s) where
-  read-n : word16 (drop at s) ≡ some (n, drop (at + 2) s)
-  read-n = word-at s at (omega arith) ∙ ap (λ z. some (z, drop (at + 2) s)) (sym e)
-
-  pub field_none : n ≡ 0 → IsField s at None
-  field_none z = field-empty (drop at s) (drop (at + 2) s) (rw z at read-n)
-
-  pub field-over : length s - at - 2 < n → IsField s at None
-  field-over h = field-long (drop at s) (drop (at + 2) s) n read-n (rw length-drop (omega arith))
-
-  pub field_in : n ≤ length s - at - 2 → (n ≡ 0 → ⊥) → IsField s at (Some (record { from = at + 2; to = at + 2 + n }))
-  field_in h z =
-      let k : at + 2 + n - (at + 2) ≡ n = omega arith in
-      record {
-        begins = refl;
-        on = omega arith;
-        inside = omega arith;
-        is = field-some (drop at s) (drop (at + 2) s) n read-n (rw length-drop (omega arith)) z ∙ rw (drop-drop, k) refl;
-      }
 
 -- MASKS.
 -- The four values of bits 1 to 3.
@@ -286,77 +232,77 @@ shape-nothing k b e = rw e refl
 slice-none : (f : ℕ) (s : List ℕ) → part s f f ≡ []
 slice-none f s = let e : f - f ≡ 0 = omega arith in rw e refl
 
-module _ (s : List ℕ) (m : ℕ) (n : Range) (g : good_map m ≡ true) where
-  pub value-text : {r : Range} → (bit_and m 2 ≡ 0 → ⊥) → InField s n.to r → ValueReads s m n (Some (record { name = n; kind = Text; at = r.from; next = r.to; count = 0 }))
+module _ (s : List ℕ) (m : ℕ) (n : Bor (List ℕ)) (at : ℕ) (g : good_map m ≡ true) where
+  pub value-text : {r : Range} → (bit_and m 2 ≡ 0 → ⊥) → IsField s (field word16) at r → ValueReads s m n.now at (Some (record { name = n; kind = Text; at = r.from; next = r.to; count = 0 }))
   unfolding ValueReads shape_kind shape_text shape_count bind
   value-text {r} h f = (
     refl,
     record {
       v = plain (part s r.from r.to);
-      is = shape-text (m / 2) (drop n.to s) (is-text m g h) ∙ rw f.is refl;
-      behind = omega (arith, f.begins);
-      on = f.on;
-      inside = f.inside;
+      is = shape-text (m / 2) (drop at s) (is-text m g h) ∙ rw f.reads refl;
+      behind = f.behind;
+      on = f.within.order;
+      inside = f.within.inside;
       sort = refl;
       text = refl;
       number = refl;
     },
   )
 
-  pub value-no-text : (bit_and m 2 ≡ 0 → ⊥) → field word16 (drop n.to s) ≡ none → ValueReads s m n None
+  pub value-no-text : (bit_and m 2 ≡ 0 → ⊥) → field word16 (drop at s) ≡ none → ValueReads s m n.now at None
   unfolding ValueReads bind
-  value-no-text h f = shape-text (m / 2) (drop n.to s) (is-text m g h) ∙ rw f refl
+  value-no-text h f = shape-text (m / 2) (drop at s) (is-text m g h) ∙ rw f refl
 
-  pub value-dictionary : {k : ℕ} → (bit_and m 4 ≡ 0 → ⊥) → n.to + 2 ≤ length s → k ≡ word_at s n.to →
-      ValueReads s m n (Some (record { name = n; kind = Dictionary; at = n.to + 2; next = n.to + 2; count = k }))
+  pub value-dictionary : {k : ℕ} → (bit_and m 4 ≡ 0 → ⊥) → at + 2 ≤ length s → word16 (drop at s) ≡ some (k, drop (at + 2) s) →
+      ValueReads s m n.now at (Some (record { name = n; kind = Dictionary; at = at + 2; next = at + 2; count = k }))
   unfolding ValueReads shape_kind shape_text shape_count bind
   value-dictionary {k} h l e = (
     refl,
     record {
       v = holding k;
-      is = shape-dictionary (m / 2) (drop n.to s) (is-dictionary m g h) ∙ rw (word-at s n.to (omega arith), e) refl;
+      is = shape-dictionary (m / 2) (drop at s) (is-dictionary m g h) ∙ rw e refl;
       behind = omega arith;
       on = omega arith;
       inside = l;
       sort = refl;
-      text = slice-none (n.to + 2) s;
+      text = slice-none (at + 2) s;
       number = refl;
     },
   )
 
-  pub value-no-count : (bit_and m 4 ≡ 0 → ⊥) → length s - n.to < 2 → ValueReads s m n None
+  pub value-no-count : (bit_and m 4 ≡ 0 → ⊥) → length s - at < 2 → ValueReads s m n.now at None
   unfolding ValueReads bind
-  value-no-count h l = shape-dictionary (m / 2) (drop n.to s) (is-dictionary m g h) ∙ rw (word_end s n.to (omega arith)) refl
+  value-no-count h l = shape-dictionary (m / 2) (drop at s) (is-dictionary m g h) ∙ rw (word_end s at (omega arith)) refl
 
-  module _ (l : n.to ≤ length s) where
-    pub value-nothing : (bit_and m 8 ≡ 0 → ⊥) → ValueReads s m n (Some (record { name = n; kind = Nothing; at = n.to; next = n.to; count = 0 }))
+  module _ (l : at ≤ length s) where
+    pub value-nothing : (bit_and m 8 ≡ 0 → ⊥) → ValueReads s m n.now at (Some (record { name = n; kind = Nothing; at = at; next = at; count = 0 }))
     unfolding ValueReads shape_kind shape_text shape_count
     value-nothing h = (
       refl,
       record {
         v = absent;
-        is = shape-nothing (m / 2) (drop n.to s) (is-nothing m g h);
+        is = shape-nothing (m / 2) (drop at s) (is-nothing m g h);
         behind = omega arith;
         on = omega arith;
         inside = l;
         sort = refl;
-        text = slice-none n.to s;
+        text = slice-none at s;
         number = refl;
       },
     )
 
-    pub value-empty : bit_and m 2 ≡ 0 → bit_and m 4 ≡ 0 → bit_and m 8 ≡ 0 → ValueReads s m n (Some (record { name = n; kind = Text; at = n.to; next = n.to; count = 0 }))
+    pub value-empty : bit_and m 2 ≡ 0 → bit_and m 4 ≡ 0 → bit_and m 8 ≡ 0 → ValueReads s m n.now at (Some (record { name = n; kind = Text; at = at; next = at; count = 0 }))
     unfolding ValueReads shape_kind shape_text shape_count
     value-empty h i j = (
       refl,
       record {
         v = plain [];
-        is = shape-empty (m / 2) (drop n.to s) (is-empty m g h i j);
+        is = shape-empty (m / 2) (drop at s) (is-empty m g h i j);
         behind = omega arith;
         on = omega arith;
         inside = l;
         sort = refl;
-        text = slice-none n.to s;
+        text = slice-none at s;
         number = refl;
       },
     )
@@ -369,10 +315,10 @@ text-map = refl
 pub text-bit : bit_and 2 2 ≡ 0 → ⊥
 text-bit e = omega arith
 
-pub value_as_text : (s : List ℕ) (m : ℕ) (n : Range) → good_map m ≡ true → (h : RustOption Item) → (bit_and m 2 ≡ 0 → ⊥) → ValueReads s 2 n h → ValueReads s m n h
+pub value_as_text : (s : List ℕ) (m : ℕ) (n : List ℕ) (at : ℕ) → good_map m ≡ true → (h : RustOption Item) → (bit_and m 2 ≡ 0 → ⊥) → ValueReads s 2 n at h → ValueReads s m n at h
 unfolding ValueReads
-value_as_text s m n g None k w = rw (is-text m g k) w
-value_as_text s m n g (Some o) k w =
+value_as_text s m n at g None k w = rw (is-text m g k) w
+value_as_text s m n at g (Some o) k w =
     let d = w.1 in
     (w.0, record { v = d.v; is = rw (is-text m g k) d.is; behind = d.behind; on = d.on; inside = d.inside; sort = d.sort; text = d.text; number = d.number })
 
@@ -403,17 +349,15 @@ module _ (s : List ℕ) (i : ℕ) (l : i < length s) where
       let b = or-false-l (eqb k 0 || eqb k 1) (eqb k 2) a in
       opened ∙ bind-none (field_if (bit 0 (get_or s i 0)) word16 (drop (i + 1) s)) (λ n. bind (shape k n.1) (λ v. some ((n.0, v.0), v.1))) (λ n. rw (shape-broken k n.1 (or-false-l (eqb k 0) (eqb k 1) b) (or-false-r (eqb k 0) (eqb k 1) b) (or-false-r (eqb k 0 || eqb k 1) (eqb k 2) a) (or-false-r ((eqb k 0 || eqb k 1) || eqb k 2) (eqb k 4) h)) refl)
 
-  reads-value : (h : RustOption Item) {n : Range} → i < n.from → n.from ≤ n.to → field_if (bit 0 (get_or s i 0)) word16 (drop (i + 1) s) ≡ some (part s n.from n.to, drop n.to s) → ValueReads s (get_or s i 0) n h → Reads s i h
+  reads-value : (h : RustOption Item) {n : List ℕ} {at : ℕ} → i < at → field_if (bit 0 (get_or s i 0)) word16 (drop (i + 1) s) ≡ some (n, drop at s) → ValueReads s (get_or s i 0) n at h → Reads s i h
   unfolding Reads ValueReads bind
-  reads-value None p q f e = opened ∙ rw f (rw e refl)
-  reads-value (Some o) {n} p q f e =
+  reads-value None p f e = opened ∙ rw f (rw e refl)
+  reads-value (Some o) p f e =
       let w = e.1 in
       record {
         v = w.v;
         is = opened ∙ rw f (rw (w.is, e.0) refl);
-        past = rw e.0 p;
-        name = rw e.0 q;
-        behind = rw e.0 w.behind;
+        behind = omega (arith, w.behind);
         on = w.on;
         inside = w.inside;
         sort = w.sort;
@@ -421,13 +365,13 @@ module _ (s : List ℕ) (i : ℕ) (l : i < length s) where
         number = w.number;
       }
 
-  pub reads_plain : (h : RustOption Item) → bit_and (get_or s i 0) 1 ≡ 0 → ValueReads s (get_or s i 0) (record { from = i + 1; to = i + 1 }) h → Reads s i h
+  pub reads_plain : (h : RustOption Item) {n : List ℕ} → bit_and (get_or s i 0) 1 ≡ 0 → n ≡ [] → ValueReads s (get_or s i 0) n (i + 1) h → Reads s i h
   unfolding field_if pure
-  reads_plain h e = reads-value h (omega arith) (omega arith) (rw (no-name-bit (get_or s i 0) e, slice-none (i + 1) s) refl)
+  reads_plain h e q = reads-value h (omega arith) (rw (no-name-bit (get_or s i 0) e, q) refl)
 
-  pub reads-named : (h : RustOption Item) {n : Range} → (bit_and (get_or s i 0) 1 ≡ 0 → ⊥) → InField s (i + 1) n → ValueReads s (get_or s i 0) n h → Reads s i h
+  pub reads-named : (h : RustOption Item) {r : Range} → (bit_and (get_or s i 0) 1 ≡ 0 → ⊥) → IsField s (field word16) (i + 1) r → ValueReads s (get_or s i 0) (part s r.from r.to) r.to h → Reads s i h
   unfolding field_if
-  reads-named h {n} e f = reads-value h (omega (arith, f.begins)) f.on (rw (name-bit (get_or s i 0) e) f.is)
+  reads-named h e f = reads-value h (omega (arith, f.behind, f.within.order)) (rw (name-bit (get_or s i 0) e) f.reads)
 
   pub reads-no-name : (bit_and (get_or s i 0) 1 ≡ 0 → ⊥) → field word16 (drop (i + 1) s) ≡ none → Reads s i None
   unfolding Reads field_if bind

@@ -4,7 +4,6 @@ use Rattle.std.specs.Prelude.{refl, List, [], ◌∷◌, ◌++◌, ℕ, ◌+◌,
 use Rattle.std.proofs.Common.{sym, ◌∙◌, append_assoc, arith}
 use Rattle.std.proofs.Math.Option.{Option, some}
 use Rattle.std.proofs.Math.ListN.{drop}
-use Rattle.scan.specs.Sets.{part}
 use Rattle.rules.specs.Layout.{bind, ◌>>=◌, pure, byte}
 use Rattle.rules.specs.Sheet.{Value, text, nothing, dictionary, Records, end, rec, field_bytes, field_mask, count, value_mask, value_bytes, encode}
 use Rattle.rules.proofs.Laws.Sheet.{word16-read, field-read, map-byte, name-read, count-le}
@@ -69,7 +68,7 @@ pub record At (s : List ℕ) (i : ℕ) : Type 0 where
 -- The item o tells of the record of a name n and a value v, behind which r stands up to j.
 pub record Describes (s : List ℕ) (i : ℕ) (n : List ℕ) (v : Value) (r : Records) (j : ℕ) (o : Item) : Type 0 where
   pub on : i < o.next
-  pub name : Part s o.name.from n o.name.to
+  pub name : o.name.now ≡ n
   pub sort : o.kind ≡ shape_kind (lead v)
   pub text : Part s o.at (shape_text (lead v)) o.next
   pub number : o.count ≡ count (inner v)
@@ -99,10 +98,10 @@ module _ {s : List ℕ} {i : ℕ} (n : List ℕ) (v : Value) (r : Records) {j : 
   unfolding Reads
   told o w₀ e =
       let w : IsItem s i o = rw e at w₀ in
-      let q = heads_same (part s o.name.from o.name.to) n w.v (lead v) (drop o.next s) (encode (join (inner v) r) ++ drop j s) (sym w.is ∙ here) in
+      let q = heads_same o.name.now n w.v (lead v) (drop o.next s) (encode (join (inner v) r) ++ drop j s) (sym w.is ∙ here) in
       record {
-        on = omega (arith, w.past, w.name, w.behind, w.on);
-        name = rw q.0 at (slice-part s o.name.from o.name.to w.name (omega (arith, w.behind, w.on, w.inside)));
+        on = omega (arith, w.behind, w.on);
+        name = q.0;
         sort = w.sort ∙ ap shape_kind q.1;
         text = rw (w.text ∙ ap shape_text q.1) at (slice-part s o.at o.next w.on w.inside);
         number = w.number ∙ ap shape_count q.1 ∙ count-inner v;

@@ -7,14 +7,16 @@ use Rattle.std.proofs.Math.Option.{Option, none, some}
 use Rattle.rules.specs.Reader.{all, but, the}
 use Rattle.rules.specs.Bytes.{word, name_byte, split, prepend}
 use Rattle.rules.specs.Layout.{bind}
-use Rattle.rules.specs.Sheet.{Value, text, nothing, dictionary, Records, encode, good_records, good_value, get, get_fields, get_pieces, resolve}
+use Rattle.rules.specs.Sheet.{Value, text, nothing, dictionary, Records, good_records, good_value, get, get_fields, get_pieces, resolve}
 use Rattle.rules.proofs.Laws.Bool.{and_l, and_r}
 use Rattle.rules.proofs.Laws.Sheet.{get-good}
 use Rattle.scan.specs.Sets.{Spans, part}
 use Rattle.scan.specs.Laws.{but-yes, but-no}
 use Rattle.scan.specs.Stretches.{span-took, spans-stop}
-use Rattle.sheet.specs.Parts.{slice-part}
-use Rattle.sheet.specs.Order.{underscored_if, underscored_if-length, underscored_if-slice, underscored_if_dot, underscored_if_get_d, underscore_if_dot}
+use Rattle.sheet.specs.Parts.{slice-part, part-all}
+use Rattle.sheet.specs.Records.{KeepsLayout, records_of, records-good}
+use Rattle.sheet.specs.Name.{spelled, asked, asked-length, asked-get, asked-dot, asked-dots}
+use Rattle.sheet.specs.declared.Name.{Name}
 use Rattle.sheet.specs.Find.{Tells, Gives, Level}
 use Rattle.std.specs.Prelude.{Option as RustOption, Some, None}
 use Rattle.scan.specs.declared.Range.{Range}
@@ -28,8 +30,8 @@ pub record UpToDot (t : List ℕ) (p q : ℕ) : Type 0 where
   pub none : all (but ".") (part t p q) ≡ true
   pub at : q < length t → but "." (get_or t q 0) ≡ false
 
--- What `span` answers.
-pub dot_spans : {t : List ℕ} {p q : ℕ} → Spans (but ".") t p q → UpToDot t p q
+-- What `span` answers in a name's text, said of the name as it is asked for.
+dot_spans : {t : List ℕ} {p q : ℕ} → Spans (but ".") t p q → UpToDot t p q
 dot_spans {t} {p} {q} s = record {
   on = s.on;
   inside = s.inside;
@@ -37,14 +39,15 @@ dot_spans {t} {p} {q} s = record {
   at = λ l. spans-stop s l;
 }
 
--- The same in a path as it is asked for.
-pub dot_underscored_if : (b : Bool) (t : List ℕ) {p q : ℕ} → UpToDot t p q → UpToDot (underscored_if b t) p q
-dot_underscored_if b t {p} {q} d = record {
-  on = d.on;
-  inside = omega (arith, d.inside, underscored_if-length b t);
-  none = rw (← underscored_if-slice b p q t) (underscored_if_dot b (part t p q) ∙ d.none);
-  at = λ l. let h : q < length t = omega (arith, underscored_if-length b t) in rw (underscored_if_get_d b t q h) (underscore_if_dot b (get_or t q 0) ∙ d.at h);
-}
+pub asked-to : (n : Name) {t : List ℕ} → t ≡ spelled n → {p q : ℕ} → Spans (but ".") t p q → UpToDot (asked n) p q
+asked-to n e {p} {q} s =
+    let d : UpToDot (spelled n) p q = rw e at (dot_spans s) in
+    record {
+      on = d.on;
+      inside = omega (arith, d.inside, asked-length n);
+      none = asked-dots n p q ∙ d.none;
+      at = λ l. let h : q < length (spelled n) = omega (arith, asked-length n) in rw (asked-get n q h) (asked-dot n (get_or (spelled n) q 0) ∙ d.at h);
+    }
 
 -- PIECES.
 split_dot : (a b : List ℕ) (x : ℕ) → all (but ".") a ≡ true → but "." x ≡ false → split "." (a ++ (x ∷ b)) ≡ a ∷ split "." b
@@ -126,10 +129,10 @@ pub record Walking (s : List ℕ) (at e p : ℕ) (r : Records) (t : List ℕ) : 
   pub level : Level s at e
   pub same : resolve r t ≡ get_pieces level.r (split "." (drop p t))
 
-pub walk_start : {s : List ℕ} {r : Records} (t : List ℕ) → s ≡ encode r → good_records r word 6 ≡ true → Walking s 0 (length s) 0 r t
+pub walk_start : {s : List ℕ} (t : List ℕ) → KeepsLayout s → Walking s 0 (length s) 0 (records_of s) t
 unfolding resolve
-walk_start {s} {r} t e g = record {
-  level = record { r = r; p = word; l = 6; part = record { ends = omega (arith, ap length e); inside = omega arith; bytes = e ∙ sym (append-nil (encode r)) ∙ ap (λ z. encode r ++ z) (sym (drop_of_length-le s {i = length s} (omega arith))) }; good = g };
+walk_start {s} t k = record {
+  level = record { r = records_of s; p = word; l = 6; part = part-all k.written; good = records-good s };
   same = refl;
 }
 
@@ -138,40 +141,38 @@ unfolding good_value
 dictionary-good d zero h = absurd (false≢true h)
 dictionary-good d (suc m) h = (m, h)
 
-module _ {s : List ℕ} {at e p q : ℕ} {r : Records} (b : Bool) (path : List ℕ) (w : Walking s at e p r (underscored_if b path)) (u₀ : UpToDot path p q) where
-  u : UpToDot (underscored_if b path) p q
-  u = dot_underscored_if b path u₀
-
-  pub walk-last : (f : RustOption Found) → q ≡ length path → Gives s (get w.level.r (underscored_if b (part path p q))) f → Gives s (resolve r (underscored_if b path)) f
+-- What is found under the piece from p to q.
+module _ {s : List ℕ} {at e p q : ℕ} {r : Records} {t : List ℕ} (w : Walking s at e p r t) (u : UpToDot t p q) where
+  pub walk-last : (f : RustOption Found) → length t ≤ q → Gives s (get w.level.r (part t p q)) f → Gives s (resolve r t) f
   walk-last f h g =
-      let i : resolve r (underscored_if b path) ≡ get w.level.r (underscored_if b (part path p q)) = w.same ∙ ap (get_pieces w.level.r) (pieces-last u (omega (arith, underscored_if-length b path))) ∙ pieces-one w.level.r (part (underscored_if b path) p q) ∙ ap (get w.level.r) (sym (underscored_if-slice b p q path)) in
+      let i : resolve r t ≡ get w.level.r (part t p q) = w.same ∙ ap (get_pieces w.level.r) (pieces-last u h) ∙ pieces-one w.level.r (part t p q) in
       subst (λ z. Gives s z f) (sym i) g
 
-  module _ (h : q < length path) where
-    more : resolve r (underscored_if b path) ≡ get_pieces w.level.r (underscored_if b (part path p q) ∷ split "." (drop (q + 1) (underscored_if b path)))
-    more = w.same ∙ ap (get_pieces w.level.r) (pieces_dot u (omega (arith, underscored_if-length b path)) ∙ ap (λ z. z ∷ split "." (drop (q + 1) (underscored_if b path))) (sym (underscored_if-slice b p q path)))
+  module _ (h : q < length t) where
+    more : resolve r t ≡ get_pieces w.level.r (part t p q ∷ split "." (drop (q + 1) t))
+    more = w.same ∙ ap (get_pieces w.level.r) (pieces_dot u h)
 
-    pub walk-missing : Gives s (get w.level.r (underscored_if b (part path p q))) None → Gives s (resolve r (underscored_if b path)) None
+    pub walk-missing : Gives s (get w.level.r (part t p q)) None → Gives s (resolve r t) None
     unfolding Gives
-    walk-missing g = more ∙ pieces-missing _ (split-full (drop (q + 1) (underscored_if b path))) w.level.r (underscored_if b (part path p q)) g
+    walk-missing g = more ∙ pieces-missing _ (split-full (drop (q + 1) t)) w.level.r (part t p q) g
 
-    module _ (f : Found) (g : Gives s (get w.level.r (underscored_if b (part path p q))) (Some f)) where
-      pub walk-stop : ((a : Range) (n : ℕ) → f ≡ Dictionary a n → ⊥) → Gives s (resolve r (underscored_if b path)) None
+    module _ (f : Found) (g : Gives s (get w.level.r (part t p q)) (Some f)) where
+      pub walk-stop : ((a : Range) (n : ℕ) → f ≡ Dictionary a n → ⊥) → Gives s (resolve r t) None
       unfolding Tells Gives
       walk-stop y = go f g.2 y
         where
-          go : (f : Found) → Tells s g.0 f → ((a : Range) (n : ℕ) → f ≡ Dictionary a n → ⊥) → Gives s (resolve r (underscored_if b path)) None
-          go Nothing t z = more ∙ pieces_none _ (split-full (drop (q + 1) (underscored_if b path))) w.level.r (underscored_if b (part path p q)) (g.1 ∙ ap some t)
-          go (Text a) t z = more ∙ pieces-text _ (split-full (drop (q + 1) (underscored_if b path))) w.level.r (underscored_if b (part path p q)) t.0 (g.1 ∙ ap some t.1)
-          go (Dictionary a n) t z = absurd (z a n refl)
+          go : (f : Found) → Tells s g.0 f → ((a : Range) (n : ℕ) → f ≡ Dictionary a n → ⊥) → Gives s (resolve r t) None
+          go Nothing x z = more ∙ pieces_none _ (split-full (drop (q + 1) t)) w.level.r (part t p q) (g.1 ∙ ap some x)
+          go (Text a) x z = more ∙ pieces-text _ (split-full (drop (q + 1) t)) w.level.r (part t p q) x.0 (g.1 ∙ ap some x.1)
+          go (Dictionary a n) x z = absurd (z a n refl)
 
-      pub walk-on : {a : Range} {n : ℕ} → f ≡ Dictionary a n → Walking s a.from a.to (q + 1) r (underscored_if b path)
+      pub walk-on : {a : Range} {n : ℕ} → f ≡ Dictionary a n → Walking s a.from a.to (q + 1) r t
       unfolding Tells Gives
       walk-on {a} {n} y =
-          let t : Tells s g.0 (Dictionary a n) = rw y at g.2 in
-          let h : get w.level.r (underscored_if b (part path p q)) ≡ some (dictionary t.0) = g.1 ∙ ap some t.1 in
-          let o = dictionary-good t.0 w.level.l (get-good w.level.r w.level.p w.level.l (underscored_if b (part path p q)) (dictionary t.0) w.level.good h) in
+          let x : Tells s g.0 (Dictionary a n) = rw y at g.2 in
+          let h : get w.level.r (part t p q) ≡ some (dictionary x.0) = g.1 ∙ ap some x.1 in
+          let o = dictionary-good x.0 w.level.l (get-good w.level.r w.level.p w.level.l (part t p q) (dictionary x.0) w.level.good h) in
           record {
-            level = record { r = t.0; p = name_byte; l = o.0; part = t.2; good = o.1 };
-            same = more ∙ pieces-dictionary _ (split-full (drop (q + 1) (underscored_if b path))) w.level.r (underscored_if b (part path p q)) t.0 h;
+            level = record { r = x.0; p = name_byte; l = o.0; part = x.2; good = o.1 };
+            same = more ∙ pieces-dictionary _ (split-full (drop (q + 1) t)) w.level.r (part t p q) x.0 h;
           }

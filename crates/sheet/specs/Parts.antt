@@ -21,9 +21,6 @@ part-split s i x y j p =
       record { ends = omega arith; inside = p.inside; bytes = e },
     )
 
-pub part_cast : (s : List ℕ) (x : List ℕ) {i j k l : ℕ} → i ≡ k → j ≡ l → Part s i x j → Part s k x l
-part_cast s x p q h = rw (p, q) at h
-
 pub slice-part : (s : List ℕ) (f t : ℕ) → f ≤ t → t ≤ length s → Part s f (part s f t) t
 slice-part s f t h k =
     let e : f + (t - f) ≡ t = omega arith in

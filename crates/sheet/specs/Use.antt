@@ -1,20 +1,16 @@
 -- For callers: a sheet that was checked is the bytes of good records.
-use Rattle.std.specs.Prelude.{◌≡◌, refl, true, List, [], ◌∷◌, ℕ, suc, ◌≤◌, ◌<◌, ltb, length, get_or}
+use Rattle.std.specs.Prelude.{◌≡◌, true, List, ℕ, ◌≤◌, ◌<◌, length, get_or}
 use Rattle.std.proofs.Common.{sym}
 use Rattle.std.proofs.Math.Option.{some}
 use Rattle.rules.specs.Reader.{all}
 use Rattle.rules.specs.Bytes.{is_byte, word}
 use Rattle.rules.specs.Sheet.{Records, encode, good_records, sheet_of}
 use Rattle.rules.specs.Answer.{is_some}
-use Rattle.rules.proofs.Laws.Bool.{and_i, ltb-true, true-some}
+use Rattle.rules.proofs.Laws.Bool.{true-some}
 use Rattle.rules.proofs.Laws.Sheet.{sheet-good, sheet_canonical}
 use Rattle.sheet.specs.Find.{IsSheet}
-
--- A list whose elements are bytes, as the list of a slice is.
-pub all-bytes : (b : List ℕ) → ((i : ℕ) → get_or b i 0 < 256) → all is_byte b ≡ true
-unfolding all is_byte
-all-bytes [] h = refl
-all-bytes (x ∷ b) h = and_i (ltb x 256) (all is_byte b) (ltb-true x 256 (h 0)) (all-bytes b (λ i. h (suc i)))
+use Rattle.sheet.specs.Records.{records_of, KeepsLayout, good-keeps, good-records_of}
+use Rattle.sheet.specs.Bytes.{all-bytes}
 
 -- What is known of a sheet that was checked.
 pub record Checked (b : List ℕ) : Type 0 where
@@ -38,5 +34,10 @@ to_look c = record { r = c.r; bytes = c.bytes; good = c.good }
 pub known : (s : List ℕ) → ((i : ℕ) → get_or s i 0 < 256) → is_some (sheet_of s) ≡ true → Checked s
 known s b h = checked s (all-bytes s b) h
 
-pub is-sheet : (s : List ℕ) → ((i : ℕ) → get_or s i 0 < 256) → is_some (sheet_of s) ≡ true → IsSheet s
-is-sheet s b h = to_look (known s b h)
+-- Bytes that can be looked up in keep the layout, where they are few enough.
+module _ {s : List ℕ} (w : IsSheet s) (h : length s ≤ 65535) where
+  pub sheet-keeps : KeepsLayout s
+  sheet-keeps = good-keeps w.r w.bytes w.good h
+
+  pub sheet-records : records_of s ≡ w.r
+  sheet-records = good-records_of w.r w.bytes w.good h

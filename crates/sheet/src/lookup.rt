@@ -1,15 +1,15 @@
-// Lookup: a walk over the records of a level, then into a dictionary.
-ghost use Rattle.std.specs.Prelude.{◌≡◌, true, List, ℕ};
+// Walks over records: one by one, over what they hold, and to a name among those of a level.
+ghost use Rattle.std.specs.Prelude.{◌≡◌, List, ℕ};
 ghost use Rattle.std.specs.Ordering.{nat_cmp};
 ghost use Rattle.std.specs.Cmp.Lexicographic.{slice_cmp};
-ghost use Rattle.std.proofs.Math.Option.{Option, some};
-ghost use Rattle.rules.specs.Bytes.{word};
-ghost use Rattle.rules.specs.Sheet.{Value, Records, rec, encode, count, good_records, get, resolve, text_of};
+ghost use Rattle.std.proofs.Math.Option.{Option};
+ghost use Rattle.rules.specs.Sheet.{Value, Records, rec, encode, count, get, text_of};
 ghost use Rattle.sheet.specs.Parts.{Part};
 ghost use Rattle.sheet.specs.Items.{At, Describes, Holding, Has};
-ghost use Rattle.sheet.specs.Order.{underscore_if, underscored_if};
-ghost use Rattle.sheet.specs.Find.{HasRecords, Tells, Gives, Places, Body, HasBody, Level, IsSheet};
+ghost use Rattle.sheet.specs.Name.{asked};
+ghost use Rattle.sheet.specs.Find.{HasRecords, Tells, Gives, Places, Body, HasBody, Level};
 
+use crate::Name;
 use crate::head::{BINDING, ENTRY, Item, Kind, read};
 use scan::Range;
 use std::cmp::Ordering;
@@ -23,7 +23,7 @@ pub enum Found {
 }
 
 // The record at a place where there is one.
-pub fn item(s: &[u8], i: usize) -> Item
+pub fn item(s: &[u8], i: usize) -> Item<'_>
     requires { At s.now i }
     ensures { (n : List ℕ) (v : Value) (r : Records) (j : ℕ) → Part s.now i (encode (rec n v r)) j → Describes s.now i n v r j result }
 {
@@ -60,19 +60,12 @@ pub fn count(s: &[u8]) -> usize
     k
 }
 
-// A byte of a name; in a reference each `-` is made `_`.
-pub fn underscored_if(reference: bool, x: u8) -> u8
-    ensures { result ≡ underscore_if reference x }
-{
-    if reference & (x == b'-') { b'_' } else { x }
-}
-
 // The order of a name and of one that is asked for.
-pub fn order(a: &[u8], b: &[u8], reference: bool) -> Ordering
-    ensures { result ≡ slice_cmp nat_cmp a.now (underscored_if reference b.now) }
+pub fn order(a: &[u8], b: Name<'_>) -> Ordering
+    ensures { result ≡ slice_cmp nat_cmp a.now (asked b.entry) }
 {
-    for (x, y) in a.iter().zip(b) {
-        let o = x.cmp(&underscored_if(reference, *y));
+    for (x, y) in a.iter().zip(b.text()) {
+        let o = x.cmp(&b.byte(*y));
         if o.is_ne() {
             return o;
         }
@@ -81,9 +74,9 @@ pub fn order(a: &[u8], b: &[u8], reference: bool) -> Ordering
 }
 
 // The value of a record.
-pub fn value(s: &[u8], o: Item) -> Found
+pub fn value(s: &[u8], o: Item<'_>) -> Found
     requires { HasBody s.now o }
-    ensures { (v : Value) → Body s.now v o → Tells s.now v result }
+    ensures { (v : Value) → Body s.now v o.entry → Tells s.now v result }
 {
     match o.kind {
         Kind::Nothing => Found::Nothing,
@@ -102,14 +95,14 @@ pub fn value(s: &[u8], o: Item) -> Found
 }
 
 // Looks a name up among the records of a level; the order of names ends the walk.
-pub fn find(s: &[u8], level: Range, name: &[u8], reference: bool) -> Option<Found>
+pub(crate) fn find(s: &[u8], level: Range, name: Name<'_>) -> Option<Found>
     requires { Level s.now level.from level.to }
-    ensures { (l : Level s.now level.from level.to) → Gives s.now (get l.r (underscored_if reference name.now)) result }
+    ensures { (l : Level s.now level.from level.to) → Gives s.now (get l.r (asked name.entry)) result }
 {
     let mut i = level.from;
     while i < level.to {
         let o = item(s, i);
-        match order(&s[o.name.from..o.name.to], name, reference) {
+        match order(o.name, name) {
             Ordering::Less => i = skip(s, o.next, o.count),
             Ordering::Equal => return Some(value(s, o)),
             Ordering::Greater => return None,
@@ -118,32 +111,8 @@ pub fn find(s: &[u8], level: Range, name: &[u8], reference: bool) -> Option<Foun
     None
 }
 
-// Looks a path up: a binding, then keys, parted by `.`.
-pub fn lookup(s: &[u8], path: &[u8], reference: bool) -> Option<Found>
-    requires { IsSheet s.now }
-    ensures { (r : Records) → s.now ≡ encode r → good_records r word 6 ≡ true → Gives s.now (resolve r (underscored_if reference path.now)) result }
-{
-    let mut level = Range {
-        from: 0,
-        to: s.len(),
-    };
-    let mut p: usize = 0;
-    loop {
-        let q = scan::span(path, p, scan::Set::NotDot);
-        let f = find(s, level, &path[p..q], reference);
-        if q == path.len() {
-            return f;
-        }
-        let Found::Dictionary { records, .. } = f? else {
-            return None;
-        };
-        level = records;
-        p = q + 1;
-    }
-}
-
 // Where the text stands that a lookup found; an empty part where it found none (E1).
-pub fn text_place(found: Option<Found>) -> Range
+pub(crate) fn text_place(found: Option<Found>) -> Range
     ensures { (s : List ℕ) (x : Option Value) → Gives s x found → Places s (text_of x) result.from result.to }
 {
     match found {

@@ -20,12 +20,20 @@ use Rattle.sheet.specs.Heads.{Shape, plain, absent, holding, shape_kind, shape_t
 use Rattle.std.specs.declared.cmp.Ordering.{Ordering}
 use Rattle.std.specs.Ordering.{nat_cmp, is_lt}
 use Rattle.std.specs.Cmp.Lexicographic.{slice_cmp}
-use Rattle.sheet.specs.Order.{underscored_if, order-less}
+use Rattle.sheet.specs.Order.{order-less}
+use Rattle.sheet.specs.Records.{KeepsLayout}
+use Rattle.std.specs.Borrow.{Bor}
 use Rattle.std.specs.Prelude.{Option as RustOption, Some, None}
-use Rattle.scan.specs.declared.Range.{Range}
+use Rattle.sheet_layout.specs.declared.Level.{Level}
+use Rattle.sheet_layout.specs.declared.Level.TheVariants.{Bindings, Entries}
 use Rattle.sheet.specs.declared.head.Kind.{Kind}
 use Rattle.sheet.specs.declared.head.Kind.TheVariants.{Nothing, Text, Dictionary}
 use Rattle.sheet.specs.declared.head.Item.{Item}
+
+-- The bytes of a level's names.
+abbrev pub name_bytes : Level → ℕ → Bool
+name_bytes Bindings = word
+name_bytes Entries = name_byte
 
 -- a, if the test holds.
 unfoldable pub guard : {A : Type 0} → Bool → A → Option A
@@ -75,34 +83,25 @@ within zero n b = none
 within (suc l) n b = run (within l) name_byte n none b
 
 -- CONTRACTS.
--- The item's places lie in the sheet; so do those of the last name.
-pub record InSheet (s : List ℕ) (o : Item) : Type 0 where
-  pub name : o.name.from ≤ o.name.to
-  pub behind : o.name.to ≤ o.at
-  pub on : o.at ≤ o.next
-  pub inside : o.next ≤ length s
-
-abbrev pub InLast : List ℕ → RustOption Range → Type 0
-InLast s None = Unit {0}
-InLast s (Some l) = (l.from ≤ l.to) × (l.to ≤ length s)
-
--- The last name.
-unfoldable pub last_in : List ℕ → RustOption Range → Option (List ℕ)
-last_in s None = none
-last_in s (Some l) = some (part s l.from l.to)
-
-unfoldable pub keeps_rules : (ℕ → Bool) → Option (List ℕ) → List ℕ → Item → Bool
-keeps_rules p l s o = suits p l (part s o.name.from o.name.to) (part s o.at o.next)
+-- The last name, if there is one.
+unfoldable pub last_of : RustOption (Bor (List ℕ)) → Option (List ℕ)
+last_of None = none
+last_of (Some l) = some l.now
 
 -- h is the head at i, if that suits.
-unfoldable pub Enters : List ℕ → ℕ → (ℕ → Bool) → Option (List ℕ) → RustOption Item → Type 0
+abbrev pub Enters : List ℕ → ℕ → (ℕ → Bool) → Option (List ℕ) → RustOption Item → Type 0
 Enters s i p l None = good_head p l (drop i s) ≡ none
 Enters s i p l (Some o) = IsItem s i o × (good_head p l (drop i s) ≡ head (drop i s))
 
 -- What is left where r says.
-unfoldable pub EndsAt : List ℕ → ℕ → Option (List ℕ) → RustOption ℕ → Type 0
+abbrev pub EndsAt : List ℕ → ℕ → Option (List ℕ) → RustOption ℕ → Type 0
 EndsAt s i x None = x ≡ none
 EndsAt s i x (Some j) = (i ≤ j) × (j ≤ length s) × (x ≡ some (drop j s))
+
+-- The sheet of these bytes, or they break the layout.
+abbrev pub Checks : List ℕ → RustOption (List ℕ) → Type 0
+Checks s None = is_some (sheet_of s) ≡ false
+Checks s (Some x) = (x ≡ s) × KeepsLayout s
 
 -- BOOLEANS.
 bool_eq : (a b : Bool) → (a ≡ true → b ≡ true) → (b ≡ true → a ≡ true) → a ≡ b
@@ -127,11 +126,6 @@ regroup a t f g b =
     and_i ((a && t) && f) (g && b) (and_i (a && t) f (and_i a t (and_l a b z) (and_r (a && b) t y)) (and_r (((a && b) && t) && g) f h)) (and_i g b (and_r ((a && b) && t) g x) (and_r a b z)))
 
 module _ {A B : Type 0} where
-  guard-then : (b c : Bool) (a : A) (x : B) → bind (guard b a) (λ y. guard c x) ≡ guard (b && c) x
-  unfolding guard bind
-  guard-then true c a x = refl
-  guard-then false c a x = refl
-
   guard_none : (b : Bool) (a : A) (f : A → Option B) → f a ≡ none → bind (guard b a) f ≡ none
   unfolding guard bind
   guard_none true a f h = h
@@ -369,78 +363,59 @@ long-is b (some r) h = rw (lt-leb (length b) 65535 h) (go (good_records r word 6
     go true = refl
     go false = refl
 
-pub check-long : (b : List ℕ) → 65535 < length b → false ≡ is_some (sheet_of b)
+pub check-long : (b : List ℕ) → 65535 < length b → is_some (sheet_of b) ≡ false
 unfolding sheet_of
-check-long b h = sym (long-is b (decode b) h)
+check-long b h = long-is b (decode b) h
 
--- THE CODE'S STEPS.
-module _ (p : ℕ → Bool) (s : List ℕ) (o : Item) (last : RustOption Range) where
-  pub fits-name : all p (part s o.name.from o.name.to) ≡ false → false ≡ keeps_rules p (last_in s last) s o
-  unfolding keeps_rules suits
-  fits-name h = rw h refl
-
-  module _ (h : all p (part s o.name.from o.name.to) ≡ true) where
-    pub fits-text : all ascii (part s o.at o.next) ≡ false → false ≡ keeps_rules p (last_in s last) s o
-    unfolding keeps_rules suits
-    fits-text k = rw (h, k) refl
-
-    module _ (k : all ascii (part s o.at o.next) ≡ true) where
-      pub fits-first : last ≡ None → true ≡ keeps_rules p (last_in s last) s o
-      unfolding keeps_rules suits last_in follows
-      fits-first e = rw (h, k, e) refl
-
-      pub fits-order : {l : Range} → last ≡ Some l → {c : Ordering} → c ≡ slice_cmp nat_cmp (part s l.from l.to) (underscored_if false (part s o.name.from o.name.to)) → is_lt c ≡ keeps_rules p (last_in s last) s o
-      unfolding keeps_rules suits last_in follows underscored_if
-      fits-order {l} e f = rw (h, k, e, f) (sym (order-less (part s l.from l.to) (part s o.name.from o.name.to)).0)
-
-pub in-sheet : (s : List ℕ) (i : ℕ) (o : Item) → Reads s i (Some o) → InSheet s o
-unfolding Reads
-in-sheet s i o w = record { name = w.name; behind = w.behind; on = w.on; inside = w.inside }
+-- THE CODE'S STEPS. What is left where the name and the text keep the rules.
+pub suits-behind : (p : ℕ → Bool) (n t : List ℕ) → all p n ≡ true → all ascii t ≡ true → {last : RustOption (Bor (List ℕ))} {l : Bor (List ℕ)} → last ≡ Some l →
+    {c : Ordering} → c ≡ slice_cmp nat_cmp l.now n → is_lt c ≡ suits p (last_of last) n t
+unfolding suits last_of follows
+suits-behind p n t h k {l = l} e f = rw (h, k, e, f) (sym (order-less l.now n).0)
 
 module _ (s : List ℕ) (i : ℕ) (p : ℕ → Bool) (l : Option (List ℕ)) where
   pub enters-broken : Reads s i None → Enters s i p l None
-  unfolding Reads Enters good_head bind
+  unfolding Reads good_head bind
   enters-broken w = rw w refl
 
   module _ (o : Item) (r : Reads s i (Some o)) where
-    there : IsItem s i o
+    pub is_item : IsItem s i o
     unfolding Reads
-    there = r
+    is_item = r
 
-    tested : (c : Bool) → keeps_rules p l s o ≡ c → good_head p l (drop i s) ≡ guard c ((part s o.name.from o.name.to, there.v), drop o.next s)
-    unfolding good_head keeps_rules bind
-    tested c q = rw there.is (rw (← there.text, q) refl)
+    tested : (c : Bool) → suits p l o.name.now (part s o.at o.next) ≡ c → good_head p l (drop i s) ≡ guard c ((o.name.now, is_item.v), drop o.next s)
+    unfolding good_head bind
+    tested c q = rw is_item.is (rw (← is_item.text, q) refl)
 
-    pub enters-in : keeps_rules p l s o ≡ true → Enters s i p l (Some o)
-    unfolding Enters guard bind
-    enters-in q = (there, tested true q ∙ sym there.is)
+    pub enters-in : suits p l o.name.now (part s o.at o.next) ≡ true → Enters s i p l (Some o)
+    unfolding guard bind
+    enters-in q = (is_item, tested true q ∙ sym is_item.is)
 
-    pub enters-not : keeps_rules p l s o ≡ false → Enters s i p l None
-    unfolding Enters guard bind
+    pub enters-not : suits p l o.name.now (part s o.at o.next) ≡ false → Enters s i p l None
+    unfolding guard bind
     enters-not q = tested false q
 
 module _ (inner : ℕ → List ℕ → Option (List ℕ)) (p : ℕ → Bool) (l : Option (List ℕ)) (s : List ℕ) (i : ℕ) where
   one-broken : Enters s i p l None → one inner p l (drop i s) ≡ none
-  unfolding Enters one bind
+  unfolding one bind
   one-broken w = rw w refl
 
   module _ (o : Item) (w : Enters s i p l (Some o)) where
     pub entered : IsItem s i o
-    unfolding Enters
     entered = w.0
 
-    opened : one inner p l (drop i s) ≡ bind (body inner o.kind o.count (drop o.next s)) (behind (part s o.name.from o.name.to))
-    unfolding Enters one bind
+    opened : one inner p l (drop i s) ≡ bind (body inner o.kind o.count (drop o.next s)) (behind (o.name.now))
+    unfolding one bind
     opened =
-        let f : good_head p l (drop i s) ≡ some ((part s o.name.from o.name.to, w.0.v), drop o.next s) = w.1 ∙ w.0.is in
+        let f : good_head p l (drop i s) ≡ some ((o.name.now, w.0.v), drop o.next s) = w.1 ∙ w.0.is in
         rw f (rw (← w.0.sort, ← w.0.number) refl)
 
     one_bad : EndsAt s o.next (body inner o.kind o.count (drop o.next s)) None → one inner p l (drop i s) ≡ none
-    unfolding EndsAt bind
+    unfolding bind
     one_bad q = opened ∙ rw q refl
 
-    one_on : (j : ℕ) → EndsAt s o.next (body inner o.kind o.count (drop o.next s)) (Some j) → (o.next ≤ j) × (j ≤ length s) × (one inner p l (drop i s) ≡ some (part s o.name.from o.name.to, drop j s))
-    unfolding EndsAt bind
+    one_on : (j : ℕ) → EndsAt s o.next (body inner o.kind o.count (drop o.next s)) (Some j) → (o.next ≤ j) × (j ≤ length s) × (one inner p l (drop i s) ≡ some (o.name.now, drop j s))
+    unfolding bind
     one_on j q = (q.0, q.1, opened ∙ rw q.2 refl)
 
 run-one : (inner : ℕ → List ℕ → Option (List ℕ)) (p : ℕ → Bool) (k : ℕ) (l : Option (List ℕ)) (b : List ℕ) → 0 < k → run inner p k l b ≡ bind (one inner p l b) (λ y. run inner p (k - 1) (some y.0) y.1)
@@ -449,14 +424,13 @@ run-one inner p zero l b h = absurd (omega arith)
 run-one inner p (suc k) l b h = let e : suc k - 1 ≡ k = omega arith in rw e refl
 
 -- Where `inside` stands: what is left to read is what was to be read.
-pub record Running (s : List ℕ) (at count levels i left : ℕ) (last : RustOption Range) : Type 0 where
+pub record Running (s : List ℕ) (at count levels i left : ℕ) (last : RustOption (Bor (List ℕ))) : Type 0 where
   pub on : at ≤ i
   pub inside : i ≤ length s
-  pub named : InLast s last
-  pub same : within levels count (drop at s) ≡ run (within (levels - 1)) name_byte left (last_in s last) (drop i s)
+  pub same : within levels count (drop at s) ≡ run (within (levels - 1)) name_byte left (last_of last) (drop i s)
 
 pub body_flat : (s : List ℕ) (kind : Kind) (at count levels : ℕ) → (kind ≡ Dictionary → ⊥) → at ≤ length s → EndsAt s at (body (within levels) kind count (drop at s)) (Some at)
-unfolding EndsAt body
+unfolding body
 body_flat s Nothing at count levels h l = (omega arith, l, refl)
 body_flat s Text at count levels h l = (omega arith, l, refl)
 body_flat s Dictionary at count levels h l = absurd (h refl)
@@ -466,57 +440,55 @@ unfolding body
 body_deep kind count levels b h = rw h refl
 
 pub body-none : (s : List ℕ) (kind : Kind) (at count levels : ℕ) → kind ≡ Dictionary → levels ≡ 0 → EndsAt s at (body (within levels) kind count (drop at s)) None
-unfolding EndsAt within
+unfolding within
 body-none s kind at count levels h e = body_deep kind count levels (drop at s) h ∙ rw e refl
 
 pub running-start : (s : List ℕ) (at count levels : ℕ) → at ≤ length s → (levels ≡ 0 → ⊥) → Running s at count levels at (count - 0) None
-unfolding last_in within
+unfolding last_of within
 running-start s at count zero h e = absurd (e refl)
 running-start s at count (suc l) h e =
     let z : suc l - 1 ≡ l = omega arith in
     let y : count - 0 ≡ count = omega arith in
-    record { on = omega arith; inside = h; named = tt; same = rw (z, y) refl }
+    record { on = omega arith; inside = h; same = rw (z, y) refl }
 
-module _ {s : List ℕ} {at count levels i left : ℕ} {last : RustOption Range} (g : Running s at count levels i left last) (kind : Kind) (deep : kind ≡ Dictionary) where
+module _ {s : List ℕ} {at count levels i left : ℕ} {last : RustOption (Bor (List ℕ))} (g : Running s at count levels i left last) (kind : Kind) (deep : kind ≡ Dictionary) where
   pub running-end : left ≤ 0 → EndsAt s at (body (within levels) kind count (drop at s)) (Some i)
-  unfolding EndsAt run
+  unfolding run
   running-end h = let z : left ≡ 0 = omega arith in (g.on, g.inside, body_deep kind count levels (drop at s) deep ∙ g.same ∙ rw z refl)
 
   module _ (h : 0 < left) where
-    stopped : one (within (levels - 1)) name_byte (last_in s last) (drop i s) ≡ none → EndsAt s at (body (within levels) kind count (drop at s)) None
-    unfolding EndsAt bind
-    stopped e = body_deep kind count levels (drop at s) deep ∙ g.same ∙ run-one (within (levels - 1)) name_byte left (last_in s last) (drop i s) h ∙ rw e refl
+    stopped : one (within (levels - 1)) name_byte (last_of last) (drop i s) ≡ none → EndsAt s at (body (within levels) kind count (drop at s)) None
+    unfolding bind
+    stopped e = body_deep kind count levels (drop at s) deep ∙ g.same ∙ run-one (within (levels - 1)) name_byte left (last_of last) (drop i s) h ∙ rw e refl
 
-    pub running-broken : Enters s i name_byte (last_in s last) None → EndsAt s at (body (within levels) kind count (drop at s)) None
-    running-broken w = stopped (one-broken (within (levels - 1)) name_byte (last_in s last) s i w)
+    pub running-broken : Enters s i name_byte (last_of last) None → EndsAt s at (body (within levels) kind count (drop at s)) None
+    running-broken w = stopped (one-broken (within (levels - 1)) name_byte (last_of last) s i w)
 
-    module _ (o : Item) (w : Enters s i name_byte (last_in s last) (Some o)) where
+    module _ (o : Item) (w : Enters s i name_byte (last_of last) (Some o)) where
       pub running_bad : EndsAt s o.next (body (within (levels - 1)) o.kind o.count (drop o.next s)) None → EndsAt s at (body (within levels) kind count (drop at s)) None
-      running_bad q = stopped (one_bad (within (levels - 1)) name_byte (last_in s last) s i o w q)
+      running_bad q = stopped (one_bad (within (levels - 1)) name_byte (last_of last) s i o w q)
 
       pub running-on : (j : ℕ) {k : ℕ} → k ≡ left - 1 → EndsAt s o.next (body (within (levels - 1)) o.kind o.count (drop o.next s)) (Some j) → Running s at count levels j k (Some o.name)
-      unfolding last_in bind
+      unfolding last_of bind
       running-on j e q =
-          let f = one_on (within (levels - 1)) name_byte (last_in s last) s i o w j q in
-          let d = entered (within (levels - 1)) name_byte (last_in s last) s i o w in
+          let f = one_on (within (levels - 1)) name_byte (last_of last) s i o w j q in
+          let d = entered (within (levels - 1)) name_byte (last_of last) s i o w in
           record {
-            on = omega (arith, g.on, f.0, d.past, d.name, d.behind, d.on);
+            on = omega (arith, g.on, f.0, d.behind, d.on);
             inside = f.1;
-            named = (d.name, omega (arith, d.behind, d.on, d.inside));
-            same = g.same ∙ run-one (within (levels - 1)) name_byte left (last_in s last) (drop i s) h ∙ rw (f.2, e) refl;
+            same = g.same ∙ run-one (within (levels - 1)) name_byte left (last_of last) (drop i s) h ∙ rw (f.2, e) refl;
           }
 
 -- Where `check` stands, with at most m records left.
-pub record Checking (s : List ℕ) (i : ℕ) (last : RustOption Range) : Type 0 where
+pub record Checking (s : List ℕ) (i : ℕ) (last : RustOption (Bor (List ℕ))) : Type 0 where
   pub m : ℕ
   pub enough : length s - i ≤ m
   pub inside : i ≤ length s
-  pub named : InLast s last
-  pub same : is_some (sheet_of s) ≡ is_some (run_all (within 6) word m (last_in s last) (drop i s))
+  pub same : is_some (sheet_of s) ≡ is_some (run_all (within 6) word m (last_of last) (drop i s))
 
 pub checking-start : (s : List ℕ) → length s ≤ 65535 → Checking s 0 None
-unfolding last_in
-checking-start s h = record { m = length s; enough = omega arith; inside = omega arith; named = tt; same = check-is s h }
+unfolding last_of
+checking-start s h = record { m = length s; enough = omega arith; inside = omega arith; same = check-is s h }
 
 all_end : (inner : ℕ → List ℕ → Option (List ℕ)) (p : ℕ → Bool) (m : ℕ) (l : Option (List ℕ)) → run_all inner p m l [] ≡ some end
 unfolding run_all
@@ -528,45 +500,38 @@ unfolding run_all
 all_one inner p zero l x b h = absurd (omega arith)
 all_one inner p (suc m) l x b h = let e : suc m - 1 ≡ m = omega arith in rw e refl
 
-module _ {s : List ℕ} {i : ℕ} {last : RustOption Range} (g : Checking s i last) where
-  pub checking-end : length s ≤ i → true ≡ is_some (sheet_of s)
+module _ {s : List ℕ} {i : ℕ} {last : RustOption (Bor (List ℕ))} (g : Checking s i last) where
+  pub checking-end : length s ≤ i → is_some (sheet_of s) ≡ true
   unfolding is_some
-  checking-end h = sym (g.same ∙ rw (drop_of_length-le s h, all_end (within 6) word g.m (last_in s last)) refl)
+  checking-end h = g.same ∙ rw (drop_of_length-le s h, all_end (within 6) word g.m (last_of last)) refl
 
   module _ (h : i < length s) where
-    next_one : is_some (sheet_of s) ≡ is_some (bind (one (within 6) word (last_in s last) (drop i s)) (λ y. run_all (within 6) word (g.m - 1) (some y.0) y.1))
+    next_one : is_some (sheet_of s) ≡ is_some (bind (one (within 6) word (last_of last) (drop i s)) (λ y. run_all (within 6) word (g.m - 1) (some y.0) y.1))
     next_one =
         let z = drop-cons s i 0 h in
         let n : 0 < g.m = omega (arith, g.enough) in
-        g.same ∙ ap is_some (rw z (all_one (within 6) word g.m (last_in s last) (get_or s i 0) (drop (suc i) s) n))
+        g.same ∙ ap is_some (rw z (all_one (within 6) word g.m (last_of last) (get_or s i 0) (drop (suc i) s) n))
 
-    halted : one (within 6) word (last_in s last) (drop i s) ≡ none → false ≡ is_some (sheet_of s)
+    halted : one (within 6) word (last_of last) (drop i s) ≡ none → is_some (sheet_of s) ≡ false
     unfolding is_some bind
-    halted e = sym (next_one ∙ rw e refl)
+    halted e = next_one ∙ rw e refl
 
-    pub checking-broken : Enters s i word (last_in s last) None → false ≡ is_some (sheet_of s)
-    checking-broken w = halted (one-broken (within 6) word (last_in s last) s i w)
+    pub checking-broken : Enters s i word (last_of last) None → is_some (sheet_of s) ≡ false
+    checking-broken w = halted (one-broken (within 6) word (last_of last) s i w)
 
-    module _ (o : Item) (w : Enters s i word (last_in s last) (Some o)) where
-      pub checking_bad : EndsAt s o.next (body (within 6) o.kind o.count (drop o.next s)) None → false ≡ is_some (sheet_of s)
-      checking_bad q = halted (one_bad (within 6) word (last_in s last) s i o w q)
+    module _ (o : Item) (w : Enters s i word (last_of last) (Some o)) where
+      pub checking_bad : EndsAt s o.next (body (within 6) o.kind o.count (drop o.next s)) None → is_some (sheet_of s) ≡ false
+      checking_bad q = halted (one_bad (within 6) word (last_of last) s i o w q)
 
       module _ (j : ℕ) (q : EndsAt s o.next (body (within 6) o.kind o.count (drop o.next s)) (Some j)) where
-        pub checking-past : i < j
-        checking-past =
-            let f = one_on (within 6) word (last_in s last) s i o w j q in
-            let d = entered (within 6) word (last_in s last) s i o w in
-            omega (arith, f.0, d.past, d.name, d.behind, d.on)
-
         pub checking-on : Checking s j (Some o.name)
-        unfolding last_in bind
+        unfolding last_of bind
         checking-on =
-            let f = one_on (within 6) word (last_in s last) s i o w j q in
-            let d = entered (within 6) word (last_in s last) s i o w in
+            let f = one_on (within 6) word (last_of last) s i o w j q in
+            let d = entered (within 6) word (last_of last) s i o w in
             record {
               m = g.m - 1;
-              enough = omega (arith, g.enough, f.0, d.past, d.name, d.behind, d.on);
+              enough = omega (arith, g.enough, f.0, d.behind, d.on);
               inside = f.1;
-              named = (d.name, omega (arith, d.behind, d.on, d.inside));
               same = next_one ∙ rw f.2 refl;
             }

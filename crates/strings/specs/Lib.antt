@@ -1,5 +1,3 @@
-pub mod Read
-pub mod Paths
 pub mod Puts
+pub mod Written
 pub mod Looked
-pub mod Laws

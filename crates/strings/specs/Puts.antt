@@ -1,22 +1,35 @@
--- A text that is put into a buffer piece by piece.
-use Rattle.std.specs.Prelude.{◌≡◌, refl, List, [], ◌++◌, ℕ, ◌≤◌, length}
-use Rattle.std.proofs.Common.{◌∙◌, arith}
-use Rattle.buffers.specs.Put.{Put, Writer}
-use Rattle.buffers.specs.Laws.{put-none, put_then, put-length}
-use Rattle.strings.specs.declared.cursor.Cursor.{Cursor}
+-- A text that is written piece by piece.
+use Rattle.std.specs.Prelude.{◌≡◌, refl, List, [], ◌++◌, ℕ, Result, Ok, Err, true, false, is_ok}
+use Rattle.std.proofs.Common.{sym, ◌∙◌, true≢false, append-nil, append_assoc}
+use Rattle.rules.specs.Run.{put, ok}
+use Rattle.refusal.specs.declared.Refusal.{Refusal}
+use Rattle.buffers.specs.declared.writer.Writer.{Writer}
+use Rattle.buffers.specs.Wrote.{Wrote, puts-then, puts-no}
+use Rattle.strings.specs.declared.piece_writer.PieceWriter.{PieceWriter}
 
--- The text v is put by a, which is then b: the same buffer with the same room.
-pub record Puts (a : Cursor) (v : List ℕ) (b : Cursor) : Type 0 where
-  pub buffer : b.out.ghost_name ≡ a.out.ghost_name
-  pub room : b.room ≡ a.room
-  pub put : length a.out.now ≤ a.room → Put a.room a.out.now a.next v b.out.now b.next
+-- The text v is put by a, which is then b, over the same writer: where that has written u, it has then written v behind u, or is refused.
+pub record Puts (a : PieceWriter) (v : List ℕ) (b : PieceWriter) : Type 0 where
+  pub same : b.to.ghost_name ≡ a.to.ghost_name
+  pub wrote : (u : List ℕ) (w : Writer) → Wrote (put u ok) w a.to.now a.outcome → Wrote (put (u ++ v) ok) w b.to.now b.outcome
 
-pub puts-none : (a : Cursor) → Writer a.room a.next → Puts a [] a
-puts-none a w = record { buffer = refl; room = refl; put = λ l. put-none w _ }
+pub puts-none : (a : PieceWriter) → Puts a [] a
+puts-none a = record { same = refl; wrote = λ u w s. rw append-nil s }
 
-pub puts-more : {a b c : Cursor} {v w : List ℕ} → Puts a v b → Puts b w c → Puts a (v ++ w) c
-puts-more p q = record {
-  buffer = q.buffer ∙ p.buffer;
-  room = q.room ∙ p.room;
-  put = λ l. let s = p.put l in put_then s l (rw p.room at (q.put (rw p.room (omega (arith, put-length s, l)))));
-}
+pub puts-more : {a b c : PieceWriter} {v w : List ℕ} → Puts a v b → Puts b w c → Puts a (v ++ w) c
+puts-more {v = v} {w} p q = record { same = q.same ∙ p.same; wrote = λ u x s. rw (sym (append_assoc u v w)) (q.wrote (u ++ v) x (p.wrote u x s)) }
+
+-- A piece, by whether all before it has been put.
+module _ {a b : PieceWriter} (v : List ℕ) where
+  pub puts-on : is_ok a.outcome ≡ true → b.to.ghost_name ≡ a.to.ghost_name → Wrote (put v ok) a.to.now b.to.now b.outcome → Puts a v b
+  puts-on h n t = record { same = n; wrote = λ u w s. at a.outcome refl h s }
+    where
+      at : {u : List ℕ} {w : Writer} (q : Result (Unit {0}) Refusal) → a.outcome ≡ q → is_ok q ≡ true → Wrote (put u ok) w a.to.now a.outcome → Wrote (put (u ++ v) ok) w b.to.now b.outcome
+      at (Ok x) e h s = puts-then e s t
+      at (Err k) e h s = absurd (true≢false (sym h))
+
+pub puts-past : (a : PieceWriter) (v : List ℕ) → is_ok a.outcome ≡ false → Puts a v a
+puts-past a v h = record { same = refl; wrote = λ u w s. at a.outcome refl h s }
+  where
+    at : {u : List ℕ} {w : Writer} (q : Result (Unit {0}) Refusal) → a.outcome ≡ q → is_ok q ≡ false → Wrote (put u ok) w a.to.now a.outcome → Wrote (put (u ++ v) ok) w a.to.now a.outcome
+    at (Ok x) e h s = absurd (true≢false h)
+    at (Err k) e h s = puts-no v e s e

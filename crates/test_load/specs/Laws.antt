@@ -1,64 +1,48 @@
 -- Laws of the test load's code: the loop that puts the pieces, and what the call comes to.
-use Rattle.std.specs.Prelude.{◌≡◌, ℕ, suc, ◌+◌, ◌-◌, ◌^◌, ◌<◌, ◌≤◌, Bool, List, [], ◌++◌, Ok, Err, length, take, slice_index_or, refl}
-use Rattle.std.proofs.Math.Path.{sym, ap, subst}
-use Rattle.std.proofs.Common.{◌∙◌, le-leb}
-use mathlib.Core.List.{append-nil, append_assoc}
+use Rattle.std.specs.Prelude.{◌≡◌, ℕ, suc, ◌+◌, ◌-◌, ◌<◌, Bool, List, [], Ok, Err, Result, length, slice_index_or}
+use Rattle.std.proofs.Math.Path.{sym}
+use Rattle.std.proofs.Common.{◌∙◌}
 use native.Mathlib.Omega.{arith}
-use Rattle.std.proofs.lemmas.Bool.{lt-leb}
-use Rattle.rules.specs.Answer.{accepted, check, ◌>>◌}
+use Rattle.rules.specs.Run.{Emit, put, ok, and_then}
 use Rattle.rules.specs.Load.{next, draw, piece_count, concat, pieces_from, pieces, load, list_of}
 use Rattle.rules.specs.Calls.{test_load_result}
-use Rattle.refusal.specs.declared.Refusal.TheVariants.{Output}
-use Rattle.buffers.specs.Put.{Writer, Put}
-use Rattle.buffers.specs.Laws.{put-none, put-writer, put-length, put_then, put-fits, put-not, stored-first}
-use Rattle.test_load.specs.Load.{answered, Loads}
+use Rattle.refusal.specs.declared.Refusal.{Refusal}
+use Rattle.buffers.specs.declared.writer.Writer.{Writer}
+use Rattle.buffers.specs.Emits.{write-join, write-none, write-one}
+use Rattle.buffers.specs.Wrote.{Wrote, Stands, Writing, writing-start, writing-same, writing-on, writing-no, writing-end}
+use Rattle.test_load.specs.Load.{Loads}
 
--- THE LOOP: what is put so far, and that the `left` pieces still to come complete the load. b: the buffer before.
-module _ (list : List (List ℕ)) (seed : ℕ) (b : List ℕ) where
-  pub record Loading (left state : ℕ) (c : List ℕ) (p : ℕ) : Type 0 where
-    pub text : List ℕ
-    pub done : Put (length b) b 0 text c p
-    pub rest : load list seed ≡ text ++ concat (pieces_from list left state)
+-- THE LOOP: the pieces still to come, `left` of them, complete the load.
+module _ (list : List (List ℕ)) (seed : ℕ) (w : Writer) where
+  abbrev Whole : Emit
+  Whole = put (load list seed) ok
 
-  pub loading-starts : {n d state : ℕ} → length b + 1 < 2 ^ 64 → n ≡ d + 1 → d ≡ draw 32 seed → state ≡ next seed → Loading n state b 0
+  pub record Loading (left state : ℕ) (w₁ : Writer) : Type 0 where
+    pub writing : Writing Whole w w₁ (put (concat (pieces_from list left state)) ok)
+
+  pub loading-starts : {n d state : ℕ} → n ≡ d + 1 → d ≡ draw 32 seed → state ≡ next seed → Loading n state w
   unfolding load pieces piece_count
-  loading-starts w h e f = record { text = []; done = put-none (record { place = omega arith; fits = w }) b; rest = rw (h, e, f) refl }
+  loading-starts h e f = record { writing = rw (h, e, f) (writing-start Whole w) }
 
   -- Piece i of n.
-  pub loading-goes : {n i state k new : ℕ} {t c e : List ℕ} {p q : ℕ} → Loading (n - i) state c p → i < n → k ≡ draw 8 state → slice_index_or list k [] ≡ t → new ≡ next state → Put (length b) c p t e q → Loading (n - (i + 1)) new e q
+  module _ {n i state k new : ℕ} {t : List ℕ} {w₁ w₂ : Writer} {q : Result (Unit {0}) Refusal} (L : Loading (n - i) state w₁) (h : i < n) (x : k ≡ draw 8 state) (z : slice_index_or list k [] ≡ t) (y : new ≡ next state) (P : Wrote (put t ok) w₁ w₂ q) where
+    here : Writing Whole w w₁ (and_then (put t ok) (put (concat (pieces_from list (n - (i + 1)) new)) ok))
+    unfolding pieces_from concat and_then
+    here =
+        let s : n - i ≡ suc (n - (i + 1)) = omega arith in
+        writing-same (λ full r. sym (write-join full r t _ ok)) (rw (← z, x, y) (rw s at L.writing))
+
+    pub loading-goes : {u : Unit {0}} → q ≡ Ok u → Loading (n - (i + 1)) new w₂
+    loading-goes e = record { writing = writing-on (put t ok) _ here e P }
+
+    pub loading-no : {j : Refusal} → q ≡ Err j → {r : Result (Unit {0}) Refusal} → r ≡ Err j → Wrote Whole w w₂ r
+    loading-no e f = writing-no (put t ok) _ here e P f
+
+  pub loading-ends : {left state : ℕ} {w₁ : Writer} {u : Unit {0}} → Loading left state w₁ → left ≡ 0 → Wrote Whole w w₁ (Ok u)
   unfolding pieces_from concat
-  loading-goes {n} {i} {t = t} L h x z y P =
-      let left = n - (i + 1) in
-      let s : n - i ≡ suc left = omega arith in
-      record {
-        text = L.text ++ t;
-        done = put_then L.done (omega arith) P;
-        rest = L.rest ∙ rw (s, ← x, ← y, z) (sym (append_assoc L.text t _));
-      }
+  loading-ends L h = writing-end (writing-same (λ full r. write-none full r ok) (rw h at L.writing))
 
-  pub loading-ends : {left state : ℕ} {c : List ℕ} {p : ℕ} → Loading left state c p → left ≡ 0 → Put (length b) b 0 (load list seed) c p
-  unfolding pieces_from concat
-  loading-ends {c = c} {p} L h = subst (λ t. Put (length b) b 0 t c p) (sym (L.rest ∙ rw h (append-nil L.text))) L.done
-
-  pub loading-writer : {left state : ℕ} {c : List ℕ} {p : ℕ} → length b + 1 < 2 ^ 64 → Loading left state c p → Writer (length b) p
-  loading-writer w L = put-writer L.done (record { place = omega arith; fits = w })
-
--- THE CALL: 11 where the load ends past the buffer.
-module _ (seed : ℕ) (definitions : Bool) (b c : List ℕ) (q : ℕ) (P : Put (length b) b 0 (load (list_of definitions) seed) c q) where
-  abbrev t : List ℕ
-  t = load (list_of definitions) seed
-
-  pub loads_eleven : length c < q → Loads seed definitions b c (Err Output)
-  unfolding test_load_result check ◌>>◌ answered
-  loads_eleven h =
-      let size = put-length P in
-      record { size = size; fits = tt; is = rw (lt-leb (length t) (length b) (omega (arith, put-not P (omega arith)))) refl }
-
-  pub loads-text : q ≤ length c → Loads seed definitions b c (Ok q)
-  unfolding test_load_result check ◌>>◌ answered
-  loads-text h =
-      let size = put-length P in
-      let fits : q ≤ length b = omega arith in
-      let e : q ≡ length t = omega (arith, put-fits P fits) in
-      let f : take q c ≡ t = (λ i. take (e i) (P.stored i)) ∙ stored-first b t (omega arith) in
-      record { size = size; fits = fits; is = rw (le-leb (length t) (length b) (omega arith)) (ap accepted (sym f)) }
+-- THE CALL.
+pub loads : (seed : ℕ) (definitions : Bool) (b c : List ℕ) (r : Result ℕ Refusal) → Stands 11 (length b) (put (load (list_of definitions) seed) ok) c r → Loads seed definitions b c r
+unfolding test_load_result
+loads seed definitions b c r s = record { size = s.size; fits = s.fits; is = sym (write-one 11 (length b) (load (list_of definitions) seed)) ∙ s.is }

@@ -1,11 +1,13 @@
 // The test load (E2): the generator, the two lists of pieces, and the load of a seed at the start of a buffer.
 #![tactic(auto)]
 
-ghost use Rattle.std.specs.Prelude.{◌≡◌, ◌<◌, length, map};
+ghost use Rattle.std.specs.Prelude.{◌≡◌, ◌<◌, map};
 ghost use Rattle.rules.specs.Load.{next, draw, load, list_of};
-ghost use Rattle.buffers.specs.Put.{Put};
+ghost use Rattle.rules.specs.Run.{put, ok};
+ghost use Rattle.buffers.specs.Wrote.{Wrote};
 ghost use Rattle.test_load.specs.Load.{Loads};
 
+use buffers::writer::Writer;
 use refusal::Refusal;
 
 // The next state; the product and the sum wrap.
@@ -67,19 +69,17 @@ fn pieces(definitions: bool) -> [&'static [u8]; 8]
     ]
 }
 
-// Puts the pieces that a seed draws from a list one behind the other. Answers where they end; a place past the buffer where they do not fit.
-fn put_load(pieces: [&[u8]; 8], seed: u32, out: &mut [u8]) -> usize
-    ensures { Put (length out.old) out.old 0 (load (map (λ p. p.now) pieces.entry) seed) out.new result }
+// Puts the pieces that a seed draws from a list one behind the other.
+fn put_load(pieces: [&[u8]; 8], seed: u32, w: &mut Writer<'_>) -> Result<(), Refusal>
+    ensures { Wrote (put (load (map (λ p. p.now) pieces.entry) seed) ok) w.old w.new result }
 {
-    let room = out.len();
     let mut generator = Generator { state: seed };
     let count = generator.draw(32) + 1;
-    let mut p = 0;
     'pieces: for _ in 0..count {
         let k = generator.draw(8) as usize;
-        p = buffers::put(out, room, p, pieces[k]);
+        w.put(pieces[k])?;
     }
-    p
+    Ok(())
 }
 
 // The load of a seed at the start of a buffer, from the list of definition pieces where `definitions` is true, else from that of document pieces. Refused: 11.
@@ -87,9 +87,7 @@ fn put_load(pieces: [&[u8]; 8], seed: u32, out: &mut [u8]) -> usize
 pub fn test_load(seed: u32, definitions: bool, out: &mut [u8]) -> Result<usize, Refusal>
     ensures { Loads seed definitions out.old out.new result }
 {
-    let end = put_load(pieces(definitions), seed, out);
-    if out.len() < end {
-        return Err(Refusal::Output);
-    }
-    Ok(end)
+    let mut w = Writer::new(out, Refusal::Output);
+    put_load(pieces(definitions), seed, &mut w)?;
+    Ok(w.at)
 }

@@ -1,9 +1,10 @@
-use native.Mathlib.Omega.{arith}
-use Rattle.builder.specs.Cleared.{includes-cleared}
+use Rattle.rules.specs.Calls.{resolve_includes_of}
+use Rattle.builder.specs.Cleared.{text-fits, text-cleared}
 use Rattle.builder.proofs.resolve_includes.Goals as goal
 
 pub clear_from-requires : goal.clear_from-requires
-clear_from-requires c = omega (arith, c.resolve_includes-t.ensures.fits, c.resolve_includes-t.ensures.size)
+clear_from-requires c = let t = c.resolve_includes.ensures in text-fits _ t.size _ _ t.fits c.from-included.ensures
 
 pub returns : goal.returns
-returns c = includes-cleared c.resolve_includes-t.ensures c.clear_from.ensures
+unfolding resolve_includes_of
+returns c = let t = c.resolve_includes.ensures in text-cleared _ t.size _ _ t.fits t.is c.from-included.ensures c.clear_from.ensures

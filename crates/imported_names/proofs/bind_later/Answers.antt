@@ -5,7 +5,7 @@ use Rattle.imported_names.proofs.Names.{none-bound, later-empty, later-some, nam
 use Rattle.imported_names.proofs.bind_later.Goals as goal
 
 pub returns-then-empty : goal.returns-then-empty
-returns-then-empty c = names_as (ap listed (sym (later-empty _ (search rules)))) (none-bound c.requires.1)
+returns-then-empty c = names_as (ap listed (sym (later-empty _ (search rules)))) (none-bound _ _)
 
 pub returns : goal.returns
 returns c = names_as (ap listed (sym (later-some _ c.if-empty.false))) c.bind_word.ensures

@@ -16,8 +16,8 @@ put_mark-returns-in_err-file-in-Include t c =
 pub put_mark-returns-in_err-resolve-in-Include : goal.put_mark-returns-in_err-resolve-in-Include
 unfolding emit_of
 put_mark-returns-in_err-resolve-in-Include t c =
-    rw (c.in-Include.is, c.in_ok-file-in-Include.ensures.goes c.args.folder.now)
-    (wrote-no (put (bytes "\n") ok) c.in_err-resolve-in-Include.was (rw c.as_bytes.ensures at c.resolve.ensures.wrote) (grind arith))
+    rw (c.in-Include.is, c.in_ok-file-in-Include.ensures.goes c.args.folder.now c.folder.ensures)
+    (wrote-no (put (bytes "\n") ok) c.in_err-resolve-in-Include.was c.resolve.ensures.wrote (grind arith))
 
 pub put_mark-returns-in-Copied : goal.put_mark-returns-in-Copied
 unfolding emit_of
@@ -30,8 +30,8 @@ put_mark-returns-in-Source t c = rw c.in-Source.is c.put_source.ensures
 pub put_mark-returns-in_ok-resolve-in-Include : goal.put_mark-returns-in_ok-resolve-in-Include
 unfolding emit_of
 put_mark-returns-in_ok-resolve-in-Include t c =
-    rw (c.in-Include.is, c.in_ok-file-in-Include.ensures.goes c.args.folder.now)
-    (wrote-then c.in_ok-resolve-in-Include.was (rw c.as_bytes.ensures at c.resolve.ensures.wrote) c.put-in-Include.ensures)
+    rw (c.in-Include.is, c.in_ok-file-in-Include.ensures.goes c.args.folder.now c.folder.ensures)
+    (wrote-then c.in_ok-resolve-in-Include.was c.resolve.ensures.wrote c.put-in-Include.ensures)
 
 pub resolve-marks-init : goal.resolve-marks-init
 resolve-marks-init t c = record { reads = c.new-reader.ensures; resolving = resolving-start _ _ _ _ _ }

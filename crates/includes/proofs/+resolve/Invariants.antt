@@ -14,7 +14,7 @@ abbrev pub decreases-resolve : goal.decreases-resolve
 decreases-resolve l = 2 * l.levels + 1
 
 abbrev pub invariant-resolve-marks : goal.invariant-resolve-marks
-invariant-resolve-marks l = record { reads : l.reader ≡ l.text; resolving : Resolving (view (entries_of l.b)) (inside_file (view (entries_of l.b)) l.levels) l.folder l.text l.initial.w l.w l.done l.whole }
+invariant-resolve-marks l = record { reads : l.reader ≡ l.text; resolving : Resolving (view (entries_of l.bundle)) (inside_file (view (entries_of l.bundle)) l.levels) l.folder l.text l.initial.w l.w l.done l.whole }
 
 abbrev pub decreases-resolve-marks : goal.decreases-resolve-marks
 decreases-resolve-marks l = length l.text - l.done

@@ -1,38 +1,25 @@
-use mathlib.Core.Path.{◌∙◌}
-use native.Mathlib.Omega.{arith}
-use Rattle.buffers.specs.Laws.{put-length, put-writer}
+use Rattle.std.proofs.Common.{arith}
+use Rattle.buffers.specs.Wrote.{wrote-ok, wrote-err, puts-then, puts-no}
 use Rattle.link_call.specs.Link.{link_alone, link_block}
 use Rattle.link_call.proofs.put_link.Goals as goal
 
-pub address_alone-requires : goal.address_alone-requires
-address_alone-requires c = c.requires.2
-
-pub expression-r-requires : goal.expression-r-requires
-expression-r-requires c = (c.requires.0, c.requires.1, c.requires.2)
-
-pub shape_of-out-then-address_alone : goal.shape_of-out-then-address_alone
-shape_of-out-then-address_alone c = put-length (c.expression-r.ensures c.requires.2).put
+pub returns-in_err-expression : goal.returns-in_err-expression
+returns-in_err-expression c = rw (link_alone _ _ c.address_alone.ensures c.if-address_alone.true) (wrote-err c.in_err-expression.was c.expression.ensures.wrote (grind arith))
 
 pub returns-then-address_alone : goal.returns-then-address_alone
-returns-then-address_alone c = λ s. link_alone _ _ (c.address_alone.ensures s) c.if-address_alone.true (c.expression-r.ensures s).put
+returns-then-address_alone c = rw (link_alone _ _ c.address_alone.ensures c.if-address_alone.true) (wrote-ok c.in_ok-expression.was c.expression.ensures.wrote)
 
-pub put-a-requires : goal.put-a-requires
-put-a-requires c = c.requires.0
+pub returns-in_err-put : goal.returns-in_err-put
+returns-in_err-put c = rw (link_block _ _ c.address_alone.ensures c.if-address_alone.false) (puts-no _ c.in_err-put.was c.put.ensures (grind arith))
 
-pub expression-r-requires-2 : goal.expression-r-requires-2
-expression-r-requires-2 c = (put-writer c.put-a.ensures c.requires.0, omega (arith, put-length c.put-a.ensures, c.requires.1), c.requires.2)
+pub returns-in_err-expression-2 : goal.returns-in_err-expression-2
+returns-in_err-expression-2 c = rw (link_block _ _ c.address_alone.ensures c.if-address_alone.false) (puts-then c.in_ok-put.was c.put.ensures (puts-no _ c.in_err-expression-2.was c.expression-2.ensures.wrote (grind arith)))
 
-pub put-b-requires : goal.put-b-requires
-put-b-requires c = put-writer (c.expression-r-2.ensures c.requires.2).put (put-writer c.put-a.ensures c.requires.0)
+pub returns-in_err-put-2 : goal.returns-in_err-put-2
+returns-in_err-put-2 c = rw (link_block _ _ c.address_alone.ensures c.if-address_alone.false) (puts-then c.in_ok-put.was c.put.ensures (puts-then c.in_ok-expression-2.was c.expression-2.ensures.wrote (puts-no _ c.in_err-put-2.was c.put-2.ensures (grind arith))))
 
-pub put-c-requires : goal.put-c-requires
-put-c-requires c = put-writer c.put-b.ensures (put-writer (c.expression-r-2.ensures c.requires.2).put (put-writer c.put-a.ensures c.requires.0))
-
-pub put-requires : goal.put-requires
-put-requires c = put-writer c.put-c.ensures (put-writer c.put-b.ensures (put-writer (c.expression-r-2.ensures c.requires.2).put (put-writer c.put-a.ensures c.requires.0)))
-
-pub shape_of-out : goal.shape_of-out
-shape_of-out c = put-length c.put.ensures ∙ put-length c.put-c.ensures ∙ put-length c.put-b.ensures ∙ put-length (c.expression-r-2.ensures c.requires.2).put ∙ put-length c.put-a.ensures
+pub returns-in_err-put-3 : goal.returns-in_err-put-3
+returns-in_err-put-3 c = rw (link_block _ _ c.address_alone.ensures c.if-address_alone.false) (puts-then c.in_ok-put.was c.put.ensures (puts-then c.in_ok-expression-2.was c.expression-2.ensures.wrote (puts-then c.in_ok-put-2.was c.put-2.ensures (puts-no _ c.in_err-put-3.was c.put-3.ensures (grind arith)))))
 
 pub returns : goal.returns
-returns c = λ s. link_block _ _ (c.address_alone.ensures s) c.if-address_alone.false c.requires.1 c.put-a.ensures (c.expression-r-2.ensures s).put c.put-b.ensures c.put-c.ensures c.put.ensures
+returns c = rw (link_block _ _ c.address_alone.ensures c.if-address_alone.false) (puts-then c.in_ok-put.was c.put.ensures (puts-then c.in_ok-expression-2.was c.expression-2.ensures.wrote (puts-then c.in_ok-put-2.was c.put-2.ensures (puts-then c.in_ok-put-3.was c.put-3.ensures c.put-4.ensures))))

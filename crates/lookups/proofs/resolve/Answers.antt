@@ -1,29 +1,20 @@
-use mathlib.Core.Path.{sym, ◌∙◌}
-use native.Mathlib.Omega.{arith}
-use Rattle.sheet.specs.Use.{is-sheet}
-use Rattle.lookups.specs.Laws.{resolve-three, resolve-six, resolve-gives, resolve-gave}
+use Rattle.std.proofs.Common.{◌≡◌, Err, refl, sym, ◌∙◌, arith, rules}
+use Rattle.buffers.specs.Wrote.{stands-ok, stands-no}
+use Rattle.lookups.specs.Laws.{resolve-three, resolve-six, resolve_eleven, resolve_text}
 use Rattle.lookups.proofs.resolve.Goals as goal
 
-pub returns-then-not-check : goal.returns-then-not-check
-returns-then-not-check c = resolve-three _ _ _ (sym c.check.ensures ∙ c.if-not-check.true)
+pub returns-in_default : goal.returns-in_default
+returns-in_default c = resolve-three _ _ _ c.in_default.ensures
 
 pub returns-then-not-is_ascii : goal.returns-then-not-is_ascii
-returns-then-not-is_ascii c = resolve-six c.args.sheet.now _ _ (λ i. omega (arith, c.type_inv.sheet i)) (sym c.check.ensures ∙ c.if-not-check.false) (sym c.is_ascii.ensures ∙ c.if-not-is_ascii.true)
+returns-then-not-is_ascii c = resolve-six _ _ _ c.in-Some.ensures.1.layout (sym c.is_ascii.ensures ∙ c.if-not-is_ascii.true)
 
-pub lookup-found-requires : goal.lookup-found-requires
-lookup-found-requires c = is-sheet c.args.sheet.now (λ i. omega (arith, c.type_inv.sheet i)) (sym c.check.ensures ∙ c.if-not-check.false)
-
-pub slice_bounds-give-count : goal.slice_bounds-give-count
-slice_bounds-give-count c = (c.text_place-place.ensures _ _ (resolve-gives c.args.sheet.now _ (λ i. omega (arith, c.type_inv.sheet i)) (sym c.check.ensures ∙ c.if-not-check.false) _ c.lookup-found.ensures)).on
-
-pub slice_bounds-give-start : goal.slice_bounds-give-start
-slice_bounds-give-start c = (c.text_place-place.ensures _ _ (resolve-gives c.args.sheet.now _ (λ i. omega (arith, c.type_inv.sheet i)) (sym c.check.ensures ∙ c.if-not-check.false) _ c.lookup-found.ensures)).on
-
-pub slice_bounds-give-end : goal.slice_bounds-give-end
-slice_bounds-give-end c = (c.text_place-place.ensures _ _ (resolve-gives c.args.sheet.now _ (λ i. omega (arith, c.type_inv.sheet i)) (sym c.check.ensures ∙ c.if-not-check.false) _ c.lookup-found.ensures)).inside
-
-pub shape_of-out : goal.shape_of-out
-shape_of-out c = c.give.ensures.size
+pub returns-in_err-put : goal.returns-in_err-put
+returns-in_err-put c =
+    let gone : c.from_residual.result ≡ Err c.in_err-put.field-0.0 = grind arith in
+    rw gone (resolve_eleven _ _ _ c.in-Some.ensures.1.layout (sym c.is_ascii.ensures ∙ c.if-not-is_ascii.false) (rw c.in-Some.ensures.0 at (c.found_text.ensures _ c.lookup-found.ensures)) (stands-no c.new-w.ensures c.put.ensures (search rules) c.in_err-put.was refl))
 
 pub returns : goal.returns
-returns c = resolve-gave c.args.sheet.now _ (λ i. omega (arith, c.type_inv.sheet i)) (sym c.check.ensures ∙ c.if-not-check.false) _ c.lookup-found.ensures (sym c.is_ascii.ensures ∙ c.if-not-is_ascii.false) c.kind.ensures (c.text_place-place.ensures _ _ (resolve-gives c.args.sheet.now _ (λ i. omega (arith, c.type_inv.sheet i)) (sym c.check.ensures ∙ c.if-not-check.false) _ c.lookup-found.ensures)).text c.give.ensures
+returns c =
+    let z = c.in-Some.ensures.0 in
+    resolve_text _ _ _ c.in-Some.ensures.1.layout (sym c.is_ascii.ensures ∙ c.if-not-is_ascii.false) (rw z at (c.found_text.ensures _ c.lookup-found.ensures)) (stands-ok c.new-w.ensures c.put.ensures (search rules) c.in_ok-put.was) c.lookup-found.result (rw z at c.lookup-found.ensures)

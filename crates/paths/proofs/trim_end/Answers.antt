@@ -13,5 +13,5 @@ use Rattle.paths.proofs.trim_end.Goals as goal
 pub returns : goal.returns
 returns c =
     let t = c.args.text.now in
-    let n = count_from_yields_List c.take_while.result _ c.count.ensures.ran (YieldsList-from_take_while _ blank (YieldsList-from_rev_slice t cc) c.take_while.ensures.closure c.take_while.ensures.done (λ x b q k. search (rules, tests))) ∙ length-prefix_len blank (reverse t) in
-    rw n (trims-end t)
+    let n = count_from_yields_List c.take_while.result _ c.count-blanks.ensures.ran (YieldsList-from_take_while _ blank (YieldsList-from_rev_slice t cc) c.take_while.ensures.closure c.take_while.ensures.done (λ x b q k. search (rules, tests))) ∙ length-prefix_len blank (reverse t) in
+    rw n (trims-end t).text

@@ -4,30 +4,12 @@ use Rattle.sheet.specs.Find.{item_holding, item_has, item_rest}
 use Rattle.places.specs.Place.{standing, standing-at, place_end, place-below, place_same, place-on}
 use Rattle.places.proofs.find_place.Goals as goal
 
-pub loop-i-init : goal.loop-i-init
-loop-i-init c = λ r p. c.start-i.ensures r p
-
 pub item-o-requires : goal.item-o-requires
 item-o-requires c = standing-at (standing (c.loop-i.invariant _ c.requires.marked) (search rules))
 
 pub skip-e-requires : goal.skip-e-requires
 skip-e-requires c = let k = standing (c.loop-i.invariant _ c.requires.marked) (search rules) in
     item_has (c.item-o.ensures _ _ _ _ k.part)
-
-pub slice_bounds-order-count : goal.slice_bounds-order-count
-slice_bounds-order-count c = let k = standing (c.loop-i.invariant _ c.requires.marked) (search rules) in
-    let d = c.item-o.ensures _ _ _ _ k.part in
-    omega (arith, d.name.ends, d.name.inside)
-
-pub slice_bounds-order-start : goal.slice_bounds-order-start
-slice_bounds-order-start c = let k = standing (c.loop-i.invariant _ c.requires.marked) (search rules) in
-    let d = c.item-o.ensures _ _ _ _ k.part in
-    omega (arith, d.name.ends, d.name.inside)
-
-pub slice_bounds-order-end : goal.slice_bounds-order-end
-slice_bounds-order-end c = let k = standing (c.loop-i.invariant _ c.requires.marked) (search rules) in
-    let d = c.item-o.ensures _ _ _ _ k.part in
-    omega (arith, d.name.ends, d.name.inside)
 
 pub returns-in-Equal : goal.returns-in-Equal
 returns-in-Equal c = λ r p.

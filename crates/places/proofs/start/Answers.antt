@@ -1,6 +1,5 @@
 use Rattle.std.proofs.Common.{rules}
 use mathlib.Core.Path.{◌∙◌, sym}
-use native.Mathlib.Omega.{arith}
 use Rattle.std.proofs.lemmas.Cmp.{is_gt_index}
 use Rattle.places.specs.Place.{place-start}
 use Rattle.places.specs.Mark.{there, there-at, place-there}
@@ -14,18 +13,6 @@ returns-then-s-last c = λ r m. place-start m.bytes
 
 pub item-o-requires : goal.item-o-requires
 item-o-requires c = there-at (there c.requires.marked (search rules))
-
-pub slice_bounds-order-count : goal.slice_bounds-order-count
-slice_bounds-order-count c = let d = c.item-o.ensures _ _ _ _ (there c.requires.marked (search rules)).part in
-    omega (arith, d.name.ends, d.name.inside)
-
-pub slice_bounds-order-start : goal.slice_bounds-order-start
-slice_bounds-order-start c = let d = c.item-o.ensures _ _ _ _ (there c.requires.marked (search rules)).part in
-    omega (arith, d.name.ends, d.name.inside)
-
-pub slice_bounds-order-end : goal.slice_bounds-order-end
-slice_bounds-order-end c = let d = c.item-o.ensures _ _ _ _ (there c.requires.marked (search rules)).part in
-    omega (arith, d.name.ends, d.name.inside)
 
 pub returns-then-behind : goal.returns-then-behind
 returns-then-behind c = λ r m. place-start m.bytes

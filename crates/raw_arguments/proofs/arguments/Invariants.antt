@@ -5,7 +5,7 @@ use Rattle.raw_arguments.specs.Args.{ArgsAt}
 use Rattle.raw_arguments.proofs.arguments.Given as goal
 
 abbrev pub invariant-rounds : goal.invariant-rounds
-invariant-rounds l = (look : Lookup) → ArgsAt look l.text l.at l.i l.lang l.block
+invariant-rounds l = (look : Lookup) → ArgsAt look l.text l.i l.lang l.block
 
 abbrev pub decreases-rounds : goal.decreases-rounds
 decreases-rounds l = length l.text - l.i

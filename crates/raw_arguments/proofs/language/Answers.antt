@@ -6,4 +6,4 @@ pub returns-then-at : goal.returns-then-at
 returns-then-at c = λ look. language-literal look c.at.ensures c.if-at.true refl c.literal_end.ensures
 
 pub returns : goal.returns
-returns c = λ look. language-reference look c.at.ensures c.if-at.false refl c.span-end.ensures
+returns c = λ look. language-reference look c.at.ensures c.if-at.false refl c.span-used.ensures

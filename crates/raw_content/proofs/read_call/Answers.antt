@@ -1,31 +1,16 @@
-use Rattle.std.proofs.Common.{rules}
-use native.Mathlib.Omega.{arith}
-use lib.ListN.{length-take, length-drop}
-use Rattle.strings.specs.Paths.{path-in}
-use Rattle.raw_content.specs.Content.{in-bundle, read_back, read-file}
+use Rattle.std.proofs.Common.{rules, arith}
 use Rattle.scan.specs.Stretches.{spans-but}
+use Rattle.raw_content.specs.Content.{read-back, read-long, read-refused, read-file}
 use Rattle.raw_content.proofs.read_call.Goals as goal
 
 pub returns-then-not-at : goal.returns-then-not-at
-returns-then-not-at c = λ s. read_back _ _ _ c.span-i.ensures c.at.ensures c.if-not-at.true c.no_content.ensures
+returns-then-not-at c = read-back _ _ _ c.span-i.ensures c.at.ensures c.if-not-at.true
 
-pub slice_bounds-expression-count : goal.slice_bounds-expression-count
-slice_bounds-expression-count c = let h = c.at.ensures.there c.if-not-at.false in search rules
+pub returns-in_err-used : goal.returns-in_err-used
+returns-in_err-used c = read-long _ _ _ c.span-i.ensures c.at.ensures c.if-not-at.false c.expression.ensures.wrote c.new-w.ensures (search rules) c.in_err-used.was (grind arith)
 
-pub slice_bounds-expression-start : goal.slice_bounds-expression-start
-slice_bounds-expression-start c = let h = c.at.ensures.there c.if-not-at.false in search rules
-
-pub expression-r-requires : goal.expression-r-requires
-expression-r-requires c = (record { place = search rules; fits = search rules }, search rules, c.requires.2)
-
-pub overflow_add-i-3 : goal.overflow_add-i-3
-overflow_add-i-3 c = let h = c.at.ensures.there c.if-not-at.false in omega (arith, simp (length-take, length-drop) at (c.expression-r.ensures c.requires.2).inside)
-
-pub find-j-requires : goal.find-j-requires
-find-j-requires c = let h = c.at.ensures.there c.if-not-at.false in omega (arith, simp (length-take, length-drop) at (c.expression-r.ensures c.requires.2).inside)
-
-pub file_content-requires : goal.file_content-requires
-file_content-requires c = (in-bundle c.args.b.now _ _ (c.open_path-f.ensures _ (path-in (search rules) (c.expression-r.ensures c.requires.2))), c.requires.3)
+pub returns-in_err-file : goal.returns-in_err-file
+returns-in_err-file c = let n = c.expression.ensures.wrote.same in let m = c.new-w.ensures.same in read-refused _ _ _ c.span-i.ensures c.at.ensures c.if-not-at.false c.expression.ensures.wrote c.new-w.ensures c.in_ok-used.was (search rules) c.in_err-file.ensures (grind arith)
 
 pub returns : goal.returns
-returns c = λ s. read-file _ _ _ c.span-i.ensures c.at.ensures c.if-not-at.false (c.expression-r.ensures s) (spans-but ")" c.find-j.ensures) c.skip-next.ensures _ (c.open_path-f.ensures _ (path-in (search rules) (c.expression-r.ensures s))) c.file_content.ensures
+returns c = let n = c.expression.ensures.wrote.same in let m = c.new-w.ensures.same in read-file _ _ _ c.span-i.ensures c.at.ensures c.if-not-at.false c.expression.ensures.wrote c.new-w.ensures c.in_ok-used.was (search rules) c.in_ok-used.ensures.ends (spans-but ")" c.find-end.ensures) c.skip.ensures c.in_ok-file.ensures (c.text_content.ensures _)

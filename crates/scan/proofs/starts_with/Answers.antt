@@ -1,12 +1,9 @@
 use Rattle.std.proofs.Common.{rules}
-use Rattle.scan.specs.Laws.{starts-short, matching-start, matching-no, matching-on, matching-end}
+use Rattle.scan.specs.Laws.{starts-short, matching-no, matching-on, matching-end}
 use Rattle.scan.proofs.starts_with.Goals as goal
 
 pub returns-then-text-at : goal.returns-then-text-at
 returns-then-text-at c = starts-short _ _ _ (search rules) (search rules)
-
-pub loop-i-init : goal.loop-i-init
-loop-i-init c = matching-start _ _ _ (search rules)
 
 pub returns-then-mark-i : goal.returns-then-mark-i
 returns-then-mark-i c = matching-no _ _ _ _ c.loop-i.invariant (search rules) (search rules) c.if-mark-i.true

@@ -20,12 +20,6 @@ span-i-requires g c = ends-inside c.loop-i.invariant.so_far c.read_round-r.ensur
 pub returns-then-not-at-clause-reads : goal.returns-then-not-at-clause-reads
 returns-then-not-at-clause-reads g c = expression_last c.loop-i.invariant.so_far c.read_round-r.ensures.reads g.met.P.Pieces.more g.met.P.Terms.kept (not-false _ c.if-not-r.false) c.span-i.ensures (sees-the "+" c.at.ensures c.if-not-at.true)
 
-pub overflow_add-i-in-loop-i : goal.overflow_add-i-in-loop-i
-overflow_add-i-in-loop-i g c = let h = c.at.ensures.there c.if-not-at.false in search rules
-
-pub loop-i-smaller : goal.loop-i-smaller
-loop-i-smaller g c = let h = c.at.ensures.there c.if-not-at.false in omega (arith, c.span-i.ensures.on)
-
 pub loop-i-preserved : goal.loop-i-preserved
 loop-i-preserved g c = let h = c.at.ensures.there c.if-not-at.false in record {
   inside = omega arith;

@@ -9,12 +9,6 @@ slice_bounds-literal-count g c = literal-inside _ c.round_start.ensures c.in-Lit
 pub slice_bounds-literal-start : goal.slice_bounds-literal-start
 slice_bounds-literal-start g c = let h = literal-inside _ c.round_start.ensures c.in-Literal.is in omega (arith, h)
 
-pub slice_bounds-literal-end : goal.slice_bounds-literal-end
-slice_bounds-literal-end g c = let h = literal-inside _ c.round_start.ensures c.in-Literal.is in omega (arith, h)
-
-pub overflow_add-result : goal.overflow_add-result
-overflow_add-result g c = let h = literal-inside _ c.round_start.ensures c.in-Literal.is in omega (arith, h, simp (length-take, length-drop) at c.literal.ensures.reads.ends.inside)
-
 pub slice_bounds-reference-count : goal.slice_bounds-reference-count
 slice_bounds-reference-count g c = (reference-inside _ c.round_start.ensures c.in-Reference.is).0
 

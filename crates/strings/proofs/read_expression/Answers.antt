@@ -2,4 +2,4 @@ use Rattle.std.proofs.Common.{rules, refl}
 use Rattle.strings.proofs.read_expression.Goals as goal
 
 pub returns-clause-reads : goal.returns-clause-reads
-returns-clause-reads g c = let r = c.expression.ensures.reads in let k = r.taken.2 in let n = r.taken.1 in record { took = r.took; taken = search rules; ends = λ s. r.ends _; says = λ s. r.says _ (s, refl) }
+returns-clause-reads g c = let r = c.expression.ensures.reads in let k = r.taken.2 in let n = r.taken.1 in record { ends = r.ends _; text = rw (r.says _ refl) (search rules) }

@@ -1,42 +1,14 @@
-use mathlib.Core.Path.{sym}
-use native.Mathlib.Omega.{arith}
-use lib.Seq.{length-take-le}
-use Rattle.values.specs.Values.{slot_le, text-size, text-inside, text-over, text-none, text-some}
+use Rattle.std.proofs.Common.{rules, ◌≡◌, Err, arith}
+use Rattle.values.specs.Values.{text-refused, text-never, text-put}
 use Rattle.values.proofs.text_value.Goals as goal
 
-pub slice_bounds-expression-end-2 : goal.slice_bounds-expression-end-2
-slice_bounds-expression-end-2 c = let h = slot_le c.args.limit 0 in
-    let g = c.requires.1.fits in
-    omega (arith, c.own_room-room.ensures)
+pub returns-in_err-used-clause-reads : goal.returns-in_err-used-clause-reads
+returns-in_err-used-clause-reads c =
+    let gone : c.from_residual.result ≡ Err c.in_err-used.field-0.0 = grind arith in
+    rw gone (text-refused _ _ _ c.requires c.new-w.ensures c.expression.ensures c.in_err-used.was)
 
-pub slice_bounds-expression-end-3 : goal.slice_bounds-expression-end-3
-slice_bounds-expression-end-3 c = let h = slot_le c.args.limit 0 in
-    let g = c.requires.1.fits in
-    sym (length-take-le _ _ (omega (arith, c.own_room-room.ensures)))
+pub returns-then-limit-eq0-clause-reads : goal.returns-then-limit-eq0-clause-reads
+returns-then-limit-eq0-clause-reads c = text-never _ _ _ c.if-limit-eq0.true
 
-pub expression-e-requires : goal.expression-e-requires
-expression-e-requires c = let h = slot_le c.args.limit 0 in
-    let g = c.requires.1.fits in
-    (record { place = omega arith; fits = omega (arith, c.own_room-room.ensures, c.requires.1.most) }, omega (arith, length-take-le c.own_room-room.result c.args.work.now (omega (arith, c.own_room-room.ensures))), c.requires.2)
-
-pub overflow_add-end : goal.overflow_add-end
-overflow_add-end c = let h = text-inside c.args.limit c.args.text.now c.args.at c.args.work.now c.own_room-room.ensures c.requires.0 c.requires.2 c.requires.1 c.expression-e.ensures in
-    omega (arith, h, c.well_formed.0.1)
-
-pub shape_of-work-then-room-len : goal.shape_of-work-then-room-len
-shape_of-work-then-room-len c = text-size c.args.limit c.args.text.now c.args.at c.args.work.now c.own_room-room.ensures c.requires.0 c.requires.2 c.requires.1 c.expression-e.ensures
-
-pub returns-then-room-len : goal.returns-then-room-len
-returns-then-room-len c = text-over _ _ _ _ c.own_room-room.ensures c.requires.0 c.requires.2 c.requires.1 c.expression-e.ensures c.if-room-len.true
-
-pub shape_of-work-then-len-eq0 : goal.shape_of-work-then-len-eq0
-shape_of-work-then-len-eq0 c = text-size c.args.limit c.args.text.now c.args.at c.args.work.now c.own_room-room.ensures c.requires.0 c.requires.2 c.requires.1 c.expression-e.ensures
-
-pub returns-then-len-eq0 : goal.returns-then-len-eq0
-returns-then-len-eq0 c = text-none _ _ _ _ c.own_room-room.ensures c.requires.0 c.requires.2 c.requires.1 c.expression-e.ensures c.if-room-len.false c.if-len-eq0.true
-
-pub shape_of-work : goal.shape_of-work
-shape_of-work c = text-size c.args.limit c.args.text.now c.args.at c.args.work.now c.own_room-room.ensures c.requires.0 c.requires.2 c.requires.1 c.expression-e.ensures
-
-pub returns : goal.returns
-returns c = text-some _ _ _ _ c.own_room-room.ensures c.requires.0 c.requires.2 c.requires.1 c.expression-e.ensures c.if-room-len.false c.if-len-eq0.false
+pub returns-clause-reads : goal.returns-clause-reads
+returns-clause-reads c = text-put _ _ _ c.requires c.new-w.ensures c.expression.ensures c.in_ok-used.was c.if-limit-eq0.false c.text_lead.ensures (search rules)

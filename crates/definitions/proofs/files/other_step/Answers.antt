@@ -1,25 +1,27 @@
-use Rattle.std.proofs.Common.{rules}
-use mathlib.Core.Path.{refl}
-use Rattle.definitions.specs.File.{steps_as, other_comment, other-let, other-skip}
+use Rattle.std.proofs.Common.{◌≡◌, Err, arith, length-take, length-drop}
+use Rattle.rules.specs.Answer.{accepted}
+use Rattle.scan.specs.Laws.{tail-part}
+use Rattle.definitions.specs.Steps.{step-behind}
+use Rattle.definitions.specs.File.{plain-behind, other_comment, other-let, other-skip}
 use Rattle.definitions.proofs.files.other_step.Goals as goal
 
-pub find-requires : goal.find-requires
-find-requires c = let h = c.starts_with.ensures.there c.if-starts_with.true in search rules
-
-pub returns-then-starts_with : goal.returns-then-starts_with
-returns-then-starts_with c = (refl, λ i. steps_as c.ended.ensures (other_comment _ c.requires.0 c.requires.2 refl c.starts_with.ensures i c.requires.5 c.if-starts_with.true c.find.ensures))
+pub returns-then-starts_with-clause-steps : goal.returns-then-starts_with-clause-steps
+returns-then-starts_with-clause-steps c = λ i. other_comment c.args.left.now c.requires.0 c.requires.2 c.starts_with.ensures i c.if-starts_with.true c.find-used.ensures c.requires.4
 
 pub let_step-requires : goal.let_step-requires
-let_step-requires c = (c.starts_with-2.ensures.there c.if-starts_with-2.true, c.requires.1, c.requires.3, c.requires.4, c.requires.5)
+let_step-requires c = (plain-behind 4 c.args.text.now c.requires.1 (tail-part c.args.text.now 4), c.requires.3, c.requires.4)
 
-pub shape_of-left-then-starts_with-2 : goal.shape_of-left-then-starts_with-2
-shape_of-left-then-starts_with-2 c = c.let_step.ensures.1.size
+pub returns-in_err-s-clause-steps : goal.returns-in_err-s-clause-steps
+returns-in_err-s-clause-steps c =
+    let gone : c.from_residual.result ≡ Err c.in_err-s.field-0.0 = grind arith in
+    λ i. rw (gone, other-let c.args.left.now c.requires.0 c.requires.2 c.starts_with.ensures i c.if-starts_with.false c.starts_with-2.ensures c.if-starts_with-2.true (tail-part c.args.text.now 4)) (c.in_err-s.ensures.steps i)
 
-pub shape_of-work-then-starts_with-2 : goal.shape_of-work-then-starts_with-2
-shape_of-work-then-starts_with-2 c = c.let_step.ensures.0
+pub behind-requires : goal.behind-requires
+behind-requires c = let h = (c.in_ok-s.ensures.steps (λ s p n. accepted s)).inside in omega (arith, c.starts_with-2.ensures.there c.if-starts_with-2.true, simp (length-take, length-drop) at h)
 
-pub returns-then-starts_with-2 : goal.returns-then-starts_with-2
-returns-then-starts_with-2 c = (c.let_step.ensures.0, λ i. other-let _ c.requires.0 c.requires.2 refl c.starts_with.ensures i c.requires.5 c.if-starts_with.false c.starts_with-2.ensures c.if-starts_with-2.true c.let_step.ensures.1)
+pub returns-then-starts_with-2-clause-steps : goal.returns-then-starts_with-2-clause-steps
+returns-then-starts_with-2-clause-steps c = λ i.
+    step-behind (c.starts_with-2.ensures.there c.if-starts_with-2.true) (tail-part c.args.text.now 4) (other-let c.args.left.now c.requires.0 c.requires.2 c.starts_with.ensures i c.if-starts_with.false c.starts_with-2.ensures c.if-starts_with-2.true (tail-part c.args.text.now 4)) (c.in_ok-s.ensures.steps i) c.behind.ensures
 
-pub returns : goal.returns
-returns c = (refl, λ i. steps_as c.ended-2.ensures (other-skip _ c.requires.0 c.requires.2 refl c.starts_with.ensures i c.requires.5 c.if-starts_with.false c.starts_with-2.ensures c.if-starts_with-2.false))
+pub returns-clause-steps : goal.returns-clause-steps
+returns-clause-steps c = λ i. other-skip c.args.left.now c.requires.0 c.requires.2 c.starts_with.ensures i c.if-starts_with.false c.starts_with-2.ensures c.if-starts_with-2.false c.requires.4

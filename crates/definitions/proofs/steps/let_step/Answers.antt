@@ -1,56 +1,32 @@
-use Rattle.std.proofs.Common.{rules}
-use mathlib.Core.Path.{sym}
-use native.Mathlib.Omega.{arith}
-use lib.Seq.{length-take-le}
-use borrow.Author.Tests.{not-true, not-false}
-use Rattle.places.specs.Mark.{has-mark}
-use Rattle.binding.specs.Use.{to-bind}
-use Rattle.values.specs.Values.{slot_le}
-use Rattle.definitions.specs.Steps.{let-no, let-size, let-over, let-bound}
+use Rattle.std.proofs.Common.{◌≡◌, Err, refl, sym, arith, length-take-le}
+use Rattle.rules.specs.Answer.{accepted}
+use Rattle.scan.specs.Laws.{tail-part}
+use Rattle.binding.specs.Buffer.{same-refl}
+use Rattle.values.specs.Values.{own-inside}
+use Rattle.definitions.specs.Steps.{has-mark-in, let-no, let-sheet, let-full, let-bound}
 use Rattle.definitions.proofs.steps.let_step.Goals as goal
 
-pub slice_bounds-value-end : goal.slice_bounds-value-end
-slice_bounds-value-end c = let k = c.requires.2 in
-    search rules
+pub returns-in_err-v-clause-steps : goal.returns-in_err-v-clause-steps
+returns-in_err-v-clause-steps c =
+    let gone : c.from_residual.result ≡ Err c.in_err-v.field-0.0 = grind arith in
+    λ i. rw gone (let-no c.args.left.now i c.span-from.ensures c.span-to.ensures c.span-at.ensures (tail-part c.args.text.now c.span-at.result) (rw c.sheet.ensures at c.in_err-v.ensures.reads) (same-refl _))
 
-pub slice_bounds-value-end-2 : goal.slice_bounds-value-end-2
-slice_bounds-value-end-2 c = let k = c.requires.2 in
-    sym (length-take-le _ _ (omega (arith, k.fits, k.room)))
+pub slice_bounds-own-end : goal.slice_bounds-own-end
+slice_bounds-own-end c = own-inside c.requires.1 c.in_ok-v.ensures.reads c.value.ensures.size
 
-pub value-v-requires : goal.value-v-requires
-value-v-requires c = (c.span-i.ensures.inside, c.requires.3, c.requires.2.sheet)
+pub slice_bounds-own-end-2 : goal.slice_bounds-own-end-2
+slice_bounds-own-end-2 c = sym (length-take-le _ _ (own-inside c.requires.1 c.in_ok-v.ensures.reads c.value.ensures.size))
 
-pub shape_of-work-then-not-v : goal.shape_of-work-then-not-v
-shape_of-work-then-not-v c = c.value-v.ensures.size
+pub bind_value_at-requires : goal.bind_value_at-requires
+bind_value_at-requires c = (has-mark-in c.args.left.now c.requires.2, record { v = c.in_ok-v.ensures.reads.v; is = c.in_ok-v.ensures.reads.source })
 
-pub returns-then-not-v : goal.returns-then-not-v
-returns-then-not-v c = (c.value-v.ensures.size, let-no _ c.span-from.ensures c.span-to.ensures c.span-i.ensures c.value-v.ensures (not-true _ c.if-not-v.true))
+pub invariant_of-left : goal.invariant_of-left
+invariant_of-left c = record { sheet = let-sheet c.args.left.now (λ s p n. accepted s) c.span-from.ensures c.span-to.ensures c.span-at.ensures (tail-part c.args.text.now c.span-at.result) (rw c.sheet.ensures at c.in_ok-v.ensures.reads) c.requires.2 c.bind_value_at.ensures c.requires.0 }
 
-pub slice_bounds-bind_value_at-end-2 : goal.slice_bounds-bind_value_at-end-2
-slice_bounds-bind_value_at-end-2 c = omega (arith, c.value-v.ensures.fits, c.value-v.ensures.size, slot_le c.args.limit 6, c.requires.3.fits)
+pub returns-in_err-last-clause-steps : goal.returns-in_err-last-clause-steps
+returns-in_err-last-clause-steps c =
+    let gone : c.from_residual-in_err-last.result ≡ Err c.in_err-last.field-0.0 = grind arith in
+    λ i. rw gone (let-full c.args.left.now i c.span-from.ensures c.span-to.ensures c.span-at.ensures (tail-part c.args.text.now c.span-at.result) (rw c.sheet.ensures at c.in_ok-v.ensures.reads) c.requires.2 c.bind_value_at.ensures c.in_err-last.was)
 
-pub slice_bounds-bind_value_at-end-3 : goal.slice_bounds-bind_value_at-end-3
-slice_bounds-bind_value_at-end-3 c = sym (length-take-le _ _ (omega (arith, c.value-v.ensures.fits, c.value-v.ensures.size, slot_le c.args.limit 6, c.requires.3.fits)))
-
-pub bind_value_at-o-requires : goal.bind_value_at-o-requires
-bind_value_at-o-requires c = let k = c.requires.2 in
-    let y = c.value-v.ensures.goes k.sheet (not-false _ c.if-not-v.false) in
-    (record { inside = omega (arith, k.fits, k.room); room = k.room; small = k.most; sheet = to-bind k.sheet }, has-mark c.requires.4, record { v = y.v; is = y.source })
-
-pub shape_of-left-in-None : goal.shape_of-left-in-None
-shape_of-left-in-None c = let-size _ c.span-from.ensures c.span-to.ensures c.span-i.ensures c.value-v.ensures (not-false _ c.if-not-v.false) c.bind_value_at-o.ensures c.requires.2
-
-pub shape_of-work-in-None : goal.shape_of-work-in-None
-shape_of-work-in-None c = c.value-v.ensures.size
-
-pub returns-in-None : goal.returns-in-None
-returns-in-None c = (c.value-v.ensures.size, let-over _ c.span-from.ensures c.span-to.ensures c.span-i.ensures c.value-v.ensures (not-false _ c.if-not-v.false) c.bind_value_at-o.ensures c.requires.2 c.requires.4 c.in-None.is)
-
-pub shape_of-left-in-Some : goal.shape_of-left-in-Some
-shape_of-left-in-Some c = let-size _ c.span-from.ensures c.span-to.ensures c.span-i.ensures c.value-v.ensures (not-false _ c.if-not-v.false) c.bind_value_at-o.ensures c.requires.2
-
-pub shape_of-work-in-Some : goal.shape_of-work-in-Some
-shape_of-work-in-Some c = c.value-v.ensures.size
-
-pub returns-in-Some : goal.returns-in-Some
-returns-in-Some c = (c.value-v.ensures.size, let-bound _ c.span-from.ensures c.span-to.ensures c.span-i.ensures c.value-v.ensures (not-false _ c.if-not-v.false) c.bind_value_at-o.ensures c.requires.2 c.requires.4 c.requires.1 c.in-Some.is)
+pub returns-clause-steps : goal.returns-clause-steps
+returns-clause-steps c = λ i. let-bound c.args.left.now i c.span-from.ensures c.span-to.ensures c.span-at.ensures (tail-part c.args.text.now c.span-at.result) (rw c.sheet.ensures at c.in_ok-v.ensures.reads) c.requires.2 c.bind_value_at.ensures c.requires.0 c.in_ok-last.was refl

@@ -6,4 +6,4 @@ pub returns-in_err-content : goal.returns-in_err-content
 returns-in_err-content c = source-refused _ c.in_err-content.ensures (grind arith) refl
 
 pub returns : goal.returns
-returns c = source-put _ c.in_ok-content.ensures.says c.put_block.ensures
+returns c = source-put _ c.in_ok-content.ensures c.put_block.ensures

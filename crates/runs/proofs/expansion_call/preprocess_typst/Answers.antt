@@ -1,18 +1,18 @@
-use Rattle.std.proofs.Common.{rules}
-use mathlib.Core.Path.{refl}
-use native.Mathlib.Omega.{arith}
-use borrow.Author.Tests.{not-true, not-false}
-use Rattle.runs.specs.Expansion.{expansion-refused, expansion-judged, expansion-keeps, expansion-stopped, expansion-done}
+use Rattle.std.proofs.Common.{rules, arith}
+use Rattle.runs.specs.Expansion.{expansion-refused, sheet-room, expansion-stopped, expansion-done}
 use Rattle.runs.proofs.expansion_call.preprocess_typst.Goals as goal
 
-pub returns-then-number-ne0 : goal.returns-then-number-ne0
-returns-then-number-ne0 c = expansion-refused c.refused.ensures refl refl (expansion-judged _ _ _ _ _ (rw c.sheet_limit-limit.ensures at c.refusal-number.ensures) c.if-number-ne0.true)
+pub returns-in_err-given : goal.returns-in_err-given
+returns-in_err-given c = expansion-refused c.sheet_limit-limit.ensures c.in_err-given.ensures (grind arith)
 
-pub expand-r-requires : goal.expand-r-requires
-expand-r-requires c = let f = c.refusal-number.ensures.yes (search rules) in (f.bundles, f.texts, record { place = omega arith; buffer = omega arith; fits = search rules }, expansion-keeps _ _ _ _ c.sheet_limit-limit.ensures f c.store.ensures)
+pub store_sheet-records-requires : goal.store_sheet-records-requires
+store_sheet-records-requires c = rw c.in_ok-given.ensures.1 (sheet-room _ _ c.sheet_limit-limit.ensures c.in_ok-given.ensures.2.fits)
 
-pub returns-then-not-r : goal.returns-then-not-r
-returns-then-not-r c = expansion-stopped _ _ _ _ c.sheet_limit-limit.ensures (c.refusal-number.ensures.yes (search rules)) c.store.ensures c.expand-r.ensures (not-true _ c.if-not-r.true) c.refused-then-not-r.ensures
+pub invariant_of-bound : goal.invariant_of-bound
+invariant_of-bound c = record { sheet = rw (c.store_sheet-records.ensures.bytes, c.in_ok-given.ensures.1) c.in_ok-given.ensures.2.sheets }
+
+pub returns-in_err-expand : goal.returns-in_err-expand
+returns-in_err-expand c = expansion-stopped c.sheet_limit-limit.ensures c.in_ok-given.ensures.2 c.new-w.ensures (rw c.in_ok-given.ensures.1 at c.store_sheet-records.ensures) (rw c.in_ok-given.ensures.0 at c.expand.ensures) (search rules) (search rules) c.in_err-expand.was (grind arith)
 
 pub returns : goal.returns
-returns c = expansion-done _ _ _ _ c.sheet_limit-limit.ensures (c.refusal-number.ensures.yes (search rules)) c.store.ensures c.expand-r.ensures (not-false _ c.if-not-r.false)
+returns c = expansion-done c.sheet_limit-limit.ensures c.in_ok-given.ensures.2 c.new-w.ensures (rw c.in_ok-given.ensures.1 at c.store_sheet-records.ensures) (rw c.in_ok-given.ensures.0 at c.expand.ensures) (search rules) (search rules) (search rules) c.in_ok-expand.was

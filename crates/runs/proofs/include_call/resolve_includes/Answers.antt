@@ -1,20 +1,16 @@
-use Rattle.std.proofs.Common.{rules, refl, sym, ap, ◌∙◌}
-use Rattle.runs.specs.Outcome.{refused_outcome}
-use Rattle.runs.specs.Includes.{text-refused, text-judged, text-stopped, text-done}
+use Rattle.std.proofs.Common.{rules, arith}
+use Rattle.runs.specs.Includes.{included-size, included-stops, included-goes, text-refused, text-stopped, text-done}
 use Rattle.runs.proofs.include_call.resolve_includes.Goals as goal
 
-pub returns-then-number-ne0 : goal.returns-then-number-ne0
-returns-then-number-ne0 c = text-refused c.refused.ensures refl (text-judged _ _ _ _ c.refusal-number.ensures c.if-number-ne0.true)
+pub returns-in_err-given : goal.returns-in_err-given
+returns-in_err-given c = text-refused c.in_err-given.ensures (grind arith)
 
-pub resolve-requires : goal.resolve-requires
-resolve-requires c = (c.refusal-number.ensures.yes (search rules)).bundles
+pub returns-in_err-resolve : goal.returns-in_err-resolve
+returns-in_err-resolve c =
+    let R = rw c.in_ok-given.ensures.0 at c.resolve.ensures in
+    text-stopped c.in_ok-given.ensures.2 (included-size _ _ _ c.new-w.ensures R (search rules)) (included-stops _ _ _ c.new-w.ensures R c.in_err-resolve.was) (grind arith)
 
-pub returns-in-Err : goal.returns-in-Err
-returns-in-Err c =
-    let e = c.in-Err.out-1-own.given.1.1 (sym c.resolve.ensures.wrote.same) in
-    rw e (text-stopped _ _ _ (c.refusal-number.ensures.yes (search rules)) c.in-Err.ensures.wrote.emits refl (c.refused-in-Err.ensures ∙ ap refused_outcome c.from.ensures))
-
-pub returns-in-Ok : goal.returns-in-Ok
-returns-in-Ok c =
-    let e = c.out-in-Ok-1.given.1.1 (sym c.resolve.ensures.wrote.same) in
-    rw e (text-done _ _ _ (c.refusal-number.ensures.yes (search rules)) c.in-Ok.ensures.wrote.emits refl)
+pub returns : goal.returns
+returns c =
+    let R = rw c.in_ok-given.ensures.0 at c.resolve.ensures in
+    text-done c.in_ok-given.ensures.2 (included-size _ _ _ c.new-w.ensures R (search rules)) (included-goes _ _ _ c.new-w.ensures R (search rules) c.in_ok-resolve.was)

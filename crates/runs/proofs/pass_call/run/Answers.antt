@@ -1,50 +1,23 @@
-use mathlib.Core.Path.{refl, sym, ap, ◌∙◌}
-use Rattle.runs.specs.Outcome.{refused_outcome}
-use native.Mathlib.Omega.{arith}
-use borrow.Author.Tests.{not-true, not-false}
-use lib.Seq.{length-take-le}
-use Rattle.runs.specs.Pass.{run-stopped, run_inside, run-ascii, run-keeps, run-refused, run-done}
+use Rattle.std.proofs.Common.{rules, arith}
+use Rattle.runs.specs.Includes.{included-size, included-stops, included-goes}
+use Rattle.runs.specs.Expansion.{sheet-room}
+use Rattle.runs.specs.Pass.{run-stopped, run-ascii, run-refused, run-done}
 use Rattle.runs.proofs.pass_call.run.Goals as goal
 
-pub resolve-requires : goal.resolve-requires
-resolve-requires c = c.requires.good.bundles
+pub returns-in_err-whole : goal.returns-in_err-whole
+returns-in_err-whole c = run-stopped c.args.left c.requires _ (included-size _ _ _ c.new-first.ensures c.resolve.ensures (search rules)) (included-stops _ _ _ c.new-first.ensures c.resolve.ensures c.in_err-whole.was) (grind arith)
 
-pub returns-in-Err : goal.returns-in-Err
-returns-in-Err c =
-    let e = c.in-Err.middle-1-own.given.1.1 (sym c.resolve.ensures.wrote.same) in
-    rw e (run-stopped c.requires c.in-Err.ensures.wrote.emits refl (c.refused.ensures ∙ ap refused_outcome c.from.ensures))
+pub store_sheet-records-requires : goal.store_sheet-records-requires
+store_sheet-records-requires c = sheet-room _ _ c.requires.limits (omega (arith, c.requires.limits, c.requires.good.fits))
 
-pub slice_bounds-expand-end : goal.slice_bounds-expand-end
-slice_bounds-expand-end c =
-    let m = c.middle-2-1.given.1.1 (sym c.resolve.ensures.wrote.same) in
-    let R = rw (sym m) at c.in-Ok.ensures.wrote.emits in
-    let h = c.in-Ok.ensures.wholes in
-    run_inside c.requires R refl h
+pub invariant_of-bound : goal.invariant_of-bound
+invariant_of-bound c = record { sheet = rw c.store_sheet-records.ensures.bytes c.requires.good.sheets }
 
-pub slice_bounds-expand-end-2 : goal.slice_bounds-expand-end-2
-slice_bounds-expand-end-2 c =
-    let m = c.middle-2-1.given.1.1 (sym c.resolve.ensures.wrote.same) in
-    let R = rw (sym m) at c.in-Ok.ensures.wrote.emits in
-    let h = c.in-Ok.ensures.wholes in
-    sym (length-take-le _ _ (run_inside c.requires R refl h))
+pub expand-requires : goal.expand-requires
+expand-requires c = run-ascii c.args.left c.requires _ (included-size _ _ _ c.new-first.ensures c.resolve.ensures (search rules)) (included-goes _ _ _ c.new-first.ensures c.resolve.ensures (search rules) c.in_ok-whole.was)
 
-pub expand-e-requires : goal.expand-e-requires
-expand-e-requires c =
-    let m = c.middle-2-1.given.1.1 (sym c.resolve.ensures.wrote.same) in
-    let R = rw (sym m) at c.in-Ok.ensures.wrote.emits in
-    let h = c.in-Ok.ensures.wholes in
-    (c.requires.good.bundles, run-ascii c.requires R refl h, record { place = omega arith; buffer = omega arith; fits = omega (arith, c.well_formed.1.1.1.1.1.0.1) }, run-keeps c.requires R refl h c.store.ensures)
-
-pub returns-then-not-e : goal.returns-then-not-e
-returns-then-not-e c =
-    let m = c.middle-2-1.given.1.1 (sym c.resolve.ensures.wrote.same) in
-    let R = rw (sym m) at c.in-Ok.ensures.wrote.emits in
-    let h = c.in-Ok.ensures.wholes in
-    run-refused c.requires R refl h c.store.ensures c.expand-e.ensures (not-true _ c.if-not-e.true) c.refused-then-not-e.ensures
+pub returns-in_err-expanded : goal.returns-in_err-expanded
+returns-in_err-expanded c = run-refused _ c.requires _ (included-size _ _ _ c.new-first.ensures c.resolve.ensures (search rules)) (included-goes _ _ _ c.new-first.ensures c.resolve.ensures (search rules) c.in_ok-whole.was) c.new-w.ensures c.store_sheet-records.ensures c.expand.ensures (search rules) (search rules) c.in_err-expanded.was (grind arith)
 
 pub returns : goal.returns
-returns c =
-    let m = c.middle-2-1.given.1.1 (sym c.resolve.ensures.wrote.same) in
-    let R = rw (sym m) at c.in-Ok.ensures.wrote.emits in
-    let h = c.in-Ok.ensures.wholes in
-    run-done c.requires R refl h c.store.ensures c.expand-e.ensures (not-false _ c.if-not-e.false) c.ends_in_newline.ensures
+returns c = run-done _ c.requires _ (included-size _ _ _ c.new-first.ensures c.resolve.ensures (search rules)) (included-goes _ _ _ c.new-first.ensures c.resolve.ensures (search rules) c.in_ok-whole.was) c.new-w.ensures c.store_sheet-records.ensures c.expand.ensures (search rules) (search rules) (search rules) c.in_ok-expanded.was c.ends_in_newline.ensures

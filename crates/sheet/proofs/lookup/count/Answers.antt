@@ -1,11 +1,8 @@
 use Rattle.std.proofs.Common.{rules}
 use native.Mathlib.Omega.{arith}
 use Rattle.sheet.specs.Find.{item_holding, item_has, item_rest}
-use Rattle.sheet.specs.Count.{count-start, count_next, counted-at, count-on, count-end}
+use Rattle.sheet.specs.Count.{count_next, counted-at, count-on, count-end}
 use Rattle.sheet.proofs.lookup.count.Goals as goal
-
-pub loop-i-init : goal.loop-i-init
-loop-i-init c = λ r p. count-start p
 
 pub item-o-requires : goal.item-o-requires
 item-o-requires c = counted-at (count_next (c.loop-i.invariant _ c.requires.bytes) (search rules))
@@ -13,10 +10,6 @@ item-o-requires c = counted-at (count_next (c.loop-i.invariant _ c.requires.byte
 pub skip-i-requires : goal.skip-i-requires
 skip-i-requires c = let k = count_next (c.loop-i.invariant _ c.requires.bytes) (search rules) in
     item_has (c.item-o.ensures _ _ _ _ k.part)
-
-pub overflow_add-k : goal.overflow_add-k
-overflow_add-k c = let n = c.loop-i.invariant _ c.requires.bytes in
-    omega (arith, n.few, n.part.ends, n.part.inside, c.well_formed.0.1)
 
 pub loop-i-smaller : goal.loop-i-smaller
 loop-i-smaller c = let k = count_next (c.loop-i.invariant _ c.requires.bytes) (search rules) in

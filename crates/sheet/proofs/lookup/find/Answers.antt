@@ -9,21 +9,6 @@ loop-i-init c = λ l. seek_start l
 pub item-o-requires : goal.item-o-requires
 item-o-requires c = sought-at (sought (c.loop-i.invariant c.requires) (search rules))
 
-pub slice_bounds-order-count : goal.slice_bounds-order-count
-slice_bounds-order-count c = let k = sought (c.loop-i.invariant c.requires) (search rules) in
-    let d = c.item-o.ensures _ _ _ _ k.part in
-    omega (arith, d.name.ends, d.name.inside)
-
-pub slice_bounds-order-start : goal.slice_bounds-order-start
-slice_bounds-order-start c = let k = sought (c.loop-i.invariant c.requires) (search rules) in
-    let d = c.item-o.ensures _ _ _ _ k.part in
-    omega (arith, d.name.ends, d.name.inside)
-
-pub slice_bounds-order-end : goal.slice_bounds-order-end
-slice_bounds-order-end c = let k = sought (c.loop-i.invariant c.requires) (search rules) in
-    let d = c.item-o.ensures _ _ _ _ k.part in
-    omega (arith, d.name.ends, d.name.inside)
-
 pub value-requires : goal.value-requires
 value-requires c = let k = sought (c.loop-i.invariant c.requires) (search rules) in
     item_has-body (c.item-o.ensures _ _ _ _ k.part)

@@ -1,6 +1,7 @@
 use Rattle.std.proofs.Common.{length}
-use Rattle.sheet.specs.Order.{underscored_if, SameTo}
+use Rattle.sheet.specs.Name.{asked}
+use Rattle.sheet.specs.Order.{SameTo}
 use Rattle.sheet.proofs.lookup.order.Given as goal
 
 abbrev pub invariant-loop-x : goal.invariant-loop-x
-invariant-loop-x l = SameTo l.a (underscored_if l.reference l.b) (length l.yielded)
+invariant-loop-x l = SameTo l.a (asked l.b) (length l.yielded)

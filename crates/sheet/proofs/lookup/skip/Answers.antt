@@ -3,9 +3,6 @@ use native.Mathlib.Omega.{arith}
 use Rattle.sheet.specs.Items.{first, first-at, left-small, left-on, left_end}
 use Rattle.sheet.proofs.lookup.skip.Goals as goal
 
-pub loop-remaining-init : goal.loop-remaining-init
-loop-remaining-init c = λ r j h. record { r = r; holds = h }
-
 pub item-o-requires : goal.item-o-requires
 item-o-requires c = first-at (first _ _ _ _ (c.loop-remaining.invariant _ _ c.requires.holds) (search rules))
 
