@@ -31,7 +31,12 @@ unfoldable pub ComesTo : {A : Type 0} → Answer Records → SheetBuffer → Res
 ComesTo a c (Ok x) = a ≡ accepted (sheet_in c)
 ComesTo a c (Err e) = a ≡ refused (number e)
 
--- LAWS. One buffer.
+-- LAWS. The sheet in a buffer is within its limit.
+pub sheet-within : (b : SheetBuffer) → sheet_length (sheet_in b) ≤ b.records.now.limit
+unfolding sheet_length
+sheet-within b = let r = b.records.now in omega (arith, ap length b.sheet.written, held r, r.fits)
+
+-- One buffer.
 pub sheet-refl : (b : SheetBuffer) → SameSheet b b
 sheet-refl b = record { same = refl; over = same-refl b.records.now }
 

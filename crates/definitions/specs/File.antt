@@ -27,13 +27,13 @@ use Rattle.places.specs.Place.{Between, between_start}
 use Rattle.binding.specs.declared.buffer.RecordBuffer.{RecordBuffer}
 use Rattle.binding.specs.declared.sheet_buffer.SheetBuffer.{SheetBuffer}
 use Rattle.binding.specs.Buffer.{bytes_in, SameBuffer, same-refl}
-use Rattle.binding.specs.Sheets.{sheet_in, SameSheet, sheet-then}
+use Rattle.binding.specs.Sheets.{sheet_in, SameSheet, sheet-then, sheet-within}
 use Rattle.values.specs.Values.{slots, Room, room-rest}
 use Rattle.bundle.specs.declared.File.{File}
 use Rattle.definition_imports.specs.declared.Import.{Import}
 use Rattle.definition_imports.specs.Import.{comes_to, IsImport}
 use Rattle.definitions.specs.declared.steps.Stepped.{Stepped}
-use Rattle.definitions.specs.Steps.{IsStep, sheet-within, guard-refused}
+use Rattle.definitions.specs.Steps.{IsStep, guard-refused}
 
 -- A step of a file in the folder g, with so many import levels left; its step `#import`.
 abbrev pub file_step : View → ℕ → List ℕ → ℕ → Step Records

@@ -23,7 +23,7 @@ use Rattle.binding.specs.declared.buffer.RecordBuffer.{RecordBuffer}
 use Rattle.binding.specs.declared.sheet_buffer.SheetBuffer.{SheetBuffer}
 use Rattle.binding.specs.Write.{IsSource}
 use Rattle.binding.specs.Buffer.{bytes_in, SameBuffer, Leaves, BindsAt}
-use Rattle.binding.specs.Sheets.{sheet_in}
+use Rattle.binding.specs.Sheets.{sheet_in, sheet-within}
 use Rattle.values.specs.declared.ValueRead.{ValueRead}
 use Rattle.values.specs.Values.{IsRead}
 use Rattle.definitions.specs.declared.steps.Stepped.{Stepped}
@@ -41,12 +41,7 @@ abbrev pub Steps : Did Records × List ℕ → List ℕ → SheetBuffer → Resu
 Steps d t c (Ok r) = IsStep d t c r
 Steps d t c (Err k) = guard sheet_length c.records.now.limit d.0 ≡ fail (number k)
 
--- LAWS. The sheet in a buffer is within its limit.
-pub sheet-within : (b : SheetBuffer) → sheet_length (sheet_in b) ≤ b.records.now.limit
-unfolding sheet_length
-sheet-within b = omega (arith, ap length b.sheet.written, length-take-le b.records.now.len b.records.now.bytes.now (omega (arith, b.records.now.fits, b.records.now.room)), b.records.now.fits)
-
--- At a place between its records a name may be searched for.
+-- LAWS. At a place between its records a name may be searched for.
 module _ (b : SheetBuffer) {i : ℕ} (m : Between (sheet_in b) i) where
   pub marked-in : Marked (bytes_in b.records.now) (sheet_in b) i
   marked-in = record { bytes = b.sheet.written; between = m; order = λ _. good-ascending (sheet_in b) word 6 (records-good (bytes_in b.records.now)) }

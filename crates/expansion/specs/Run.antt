@@ -26,9 +26,9 @@ use Rattle.buffers.specs.Wrote.{Wrote, Writing, writing-start, writing-same, wri
 use Rattle.buffers.specs.Copies.{after_all, copied, Copied, copied-part, after_all-same}
 use Rattle.expansion_steps.specs.declared.output.Step.{Step}
 use Rattle.expansion_steps.specs.Call.{Goes}
-use Rattle.expansion_steps.specs.Step.{Steps, within-limit, sheet-within}
+use Rattle.expansion_steps.specs.Step.{Steps, within-limit}
 use Rattle.binding.specs.declared.sheet_buffer.SheetBuffer.{SheetBuffer}
-use Rattle.binding.specs.Sheets.{sheet_in, SameSheet, sheet-refl, sheet-then}
+use Rattle.binding.specs.Sheets.{sheet_in, SameSheet, sheet-refl, sheet-then, sheet-within}
 
 -- The text t is expanded, for the sheet in b: what is written, or 9; and, if all is written, whether each step is whole, and that c holds the sheet.
 pub record Expands (v : View) (t : List ℕ) (w w₂ : Writer) (b c : SheetBuffer) (r : Result Bool Refusal) : Type 0 where

@@ -20,7 +20,7 @@ use Rattle.buffers.specs.Emits.{guard, guard-yes, guard-no}
 use Rattle.sheet.specs.Records.{records_of}
 use Rattle.binding.specs.declared.sheet_buffer.SheetBuffer.{SheetBuffer}
 use Rattle.binding.specs.Buffer.{bytes_in}
-use Rattle.binding.specs.Sheets.{sheet_in, SameSheet, sheet-refl}
+use Rattle.binding.specs.Sheets.{sheet_in, SameSheet, sheet-refl, sheet-within}
 use Rattle.let_steps.specs.Let.{Imports, Lets}
 use Rattle.expansion_steps.specs.declared.output.Step.{Step}
 use Rattle.expansion_steps.specs.Call.{Goes, Does}
@@ -37,12 +37,7 @@ pub record Steps (v : View) (t : List ℕ) (w w₂ : Writer) (b c : SheetBuffer)
   pub wrote : Wrote (guard sheet_length b.records.now.limit (expansion_step v (sheet_in b) t).0) w w₂ r
   pub goes : IfOk r (λ k. Goes 1 (expansion_step v (sheet_in b) t) t k.used k.whole × (sheet_in c ≡ (expansion_step v (sheet_in b) t).0.state))
 
--- LAWS. A sheet is within its limit.
-pub sheet-within : (b : SheetBuffer) → sheet_length (sheet_in b) ≤ b.records.now.limit
-unfolding sheet_length
-sheet-within b = let r = b.records.now in omega (arith, ap length b.sheet.written, length-take-le r.len r.bytes.now (omega (arith, r.fits, r.room)), r.fits)
-
--- A step that comes to such a sheet passes the limit.
+-- LAWS. A step that comes to a sheet in its buffer passes the limit.
 pub within-limit : (d : Did Records) (c : SheetBuffer) {limit : ℕ} → c.records.now.limit ≡ limit → sheet_in c ≡ d.state → guard sheet_length limit d ≡ d.emit
 within-limit d c {limit} l e = guard-yes sheet_length limit d (le-leb _ limit (omega (arith, sheet-within c, ap sheet_length e)))
 

@@ -18,6 +18,7 @@ use Rattle.sheet.specs.declared.lookup.Found.{Found}
 use Rattle.sheet.specs.declared.lookup.Found.TheVariants.{Nothing, Text, Dictionary}
 use Rattle.sheet.specs.Records.{records_of, sheet-some}
 use Rattle.sheet.specs.Find.{Gives, Tells, gives-kind}
+use Rattle.buffers.specs.Emits.{write-one}
 use Rattle.buffers.specs.Wrote.{Stands, first_bytes}
 use Rattle.lookups.specs.Text.{Resolves, text_len}
 
@@ -50,16 +51,12 @@ module _ (s p b : List ℕ) (k : is_some (sheet_of s) ≡ true) where
 
     -- Its text t is put at the start of the buffer.
     module _ {t : List ℕ} (q : t ≡ text_of (resolve (records_of s) p)) where
-      put-text : write 11 (length b) (put t ok) ≡ (check 11 (leb (length t) (length b)) >> accepted t)
-      unfolding write ◌>>=◌
-      put-text = ap (λ u. check 11 (leb (length t) (length b)) >> accepted u) (append-nil t)
-
       looked-here : resolve_result s p (length b) ≡ (check 11 (leb (length t) (length b)) >> accepted (resolve (records_of s) p))
       looked-here = looked (length b) ∙ rw (sym q) refl
 
       pub resolve_eleven : {c : List ℕ} {k : Refusal} → Stands 11 (length b) (put t ok) c (Err k) → Resolves s p b c (Err k)
       unfolding first_bytes check ◌>>◌
-      resolve_eleven {k = k} S = record { size = S.size; fits = tt; is = looked-here ∙ at (leb (length t) (length b)) (sym put-text ∙ S.is) }
+      resolve_eleven {k = k} S = record { size = S.size; fits = tt; is = looked-here ∙ at (leb (length t) (length b)) (sym (write-one 11 (length b) t) ∙ S.is) }
         where
           at : (d : Bool) → ◌≡◌ {A = Answer (List ℕ)} (check 11 d >> accepted t) (refused (number k)) → (check 11 d >> accepted (resolve (records_of s) p)) ≡ refused (number k)
           at true h = absurd (not-both (sym h))
@@ -68,7 +65,7 @@ module _ (s p b : List ℕ) (k : is_some (sheet_of s) ≡ true) where
       pub resolve_text : {c : List ℕ} {n : ℕ} → Stands 11 (length b) (put t ok) c (Ok n) → (f : Option Found) → Gives s (resolve (records_of s) p) f → Resolves s p b c (Ok f)
       unfolding first_bytes
       resolve_text {c} {n} S f g =
-          let h = check_inv 11 (leb (length t) (length b)) (accepted t) (sym put-text ∙ S.is) in
+          let h = check_inv 11 (leb (length t) (length b)) (accepted t) (sym (write-one 11 (length b) t) ∙ S.is) in
           let stands : take n c ≡ t = sym (accepted-same h.1) in
           let long : n ≡ text_len f = sym (length-take-le n c (omega (arith, S.size, S.fits))) ∙ ap length (stands ∙ q) ∙ gives-length s _ f g in
           record {

@@ -182,10 +182,3 @@ module _ (b : List ℕ) {o o₂ : List ℕ} (l : 32768 ≡ length o) where
       let i = ap length e ∙ s.long in
       let j = (λ k. padded ((l ∙ sym B.size) k) (e k)) ∙ s.is in
       λ k. record { len = i k; out = j k }
-
--- What is written lies in the buffer.
-pub manual-size : (b : List ℕ) {n : ℕ} {o : List ℕ} → manual_of b ≡ record { len = n; out = o } → length o ≡ 32768
-manual-size b e = rw e at (manual-holds b).size
-
-pub manual-inside : (b : List ℕ) {n : ℕ} {o : List ℕ} → manual_of b ≡ record { len = n; out = o } → n ≤ length o
-manual-inside b e = let h = rw e at (manual-holds b) in omega (arith, h.size, h.fits)

@@ -95,9 +95,6 @@ module _ {b g t z : List ℕ} (left : MutBor (List ℕ)) {L : ℕ} (B : Begins b
   })
 
   module _ {q : ℕ} {x : Bool} (M : Middle (view (entries_of b)) 10 (length m) g t c q x) where
-    pub run-inside : q ≤ length c
-    run-inside = omega (arith, M.fits)
-
     pub run-ascii : all ascii (take q c) ≡ true
     run-ascii = rw M.is (middle-plain (view (entries_of b)) g t B.good.texts)
 

@@ -6,7 +6,7 @@ use Rattle.std.proofs.Math.Bool.{true}
 use Rattle.std.proofs.Math.Option.{Option, none, some}
 use Rattle.scan.specs.Sets.{part}
 use Rattle.rules.specs.Reader.{same}
-use Rattle.rules.specs.Bytes.{word, less}
+use Rattle.rules.specs.Bytes.{less}
 use Rattle.rules.specs.Sheet.{Value, text, nothing, dictionary, Records, end, rec, encode, count, before, good_records, get, kind_of, text_of}
 use Rattle.rules.proofs.Laws.Sheet.{good-parts, less-trans}
 use Rattle.sheet.specs.Parts.{Part, part-split, part_slice}
@@ -29,12 +29,6 @@ use Rattle.scan.specs.declared.Range.{Range}
 pub record HasRecords (s : List ℕ) : Type 0 where
   pub r : Records
   pub bytes : s ≡ encode r
-
--- The bytes of good records.
-pub record IsSheet (s : List ℕ) : Type 0 where
-  pub r : Records
-  pub bytes : s ≡ encode r
-  pub good : good_records r word 6 ≡ true
 
 -- f tells of the value v, by places of s.
 unfoldable pub Tells : List ℕ → Value → Found → Type 0

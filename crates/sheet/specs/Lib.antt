@@ -5,7 +5,6 @@ pub mod Order
 pub mod Find
 pub mod Look
 pub mod Count
-pub mod Use
 pub mod Bytes
 pub mod Records
 pub mod Name
