@@ -15,7 +15,7 @@ use Rattle.rules.specs.Sheet.{Records, sheet_length, sheet_of}
 use Rattle.rules.specs.Calls.{limit}
 use Rattle.rules.proofs.Laws.Bool.{true-some, false-some}
 use Rattle.bundle.specs.Find.{entries_of, entries-some}
-use Rattle.sheet.specs.Records.{KeepsLayout, records_of, sheet-some}
+use Rattle.sheet.specs.Records.{Checked, records_of, sheet-some}
 use Rattle.arguments.specs.declared.Given.{Given}
 
 -- The bundle's entries and the sheet's records, or the refusal: 2, 3, 4, 6, 9.
@@ -31,7 +31,7 @@ given bundle folder text sheet L = do
 -- The arguments keep the rules.
 pub record GoodArguments (bundle folder text sheet : List ℕ) (L : ℕ) : Type 0 where
   pub bundles : is_some (bundle_of bundle) ≡ true
-  pub sheets : KeepsLayout sheet
+  pub sheets : Checked sheet
   pub folders : is_folder folder ≡ true
   pub texts : all ascii text ≡ true
   pub fits : length sheet ≤ L
@@ -79,7 +79,7 @@ module _ (bundle folder text sheet : List ℕ) (L : ℕ) where
     unfolding given or_refuse ◌>>=◌
     judges-three q = rw ((true-some (bundle_of bundle) h).1, false-some (sheet_of sheet) q) refl
 
-    module _ (k : KeepsLayout sheet) where
+    module _ (k : Checked sheet) where
       pub judges-four : is_folder folder ≡ false → Judges bundle folder text sheet L (Err Path)
       unfolding given or_refuse check ◌>>=◌ ◌>>◌
       judges-four g = rw ((true-some (bundle_of bundle) h).1, sheet-some sheet k.layout, g) refl
@@ -101,11 +101,3 @@ module _ (bundle folder text sheet : List ℕ) (L : ℕ) where
 pub limit-le : (n : ℕ) → limit n ≤ n
 unfolding limit
 limit-le n = omega arith
-
-pub limit-short : {n : ℕ} → n < 65535 → n ≡ limit n
-unfolding limit
-limit-short h = omega arith
-
-pub limit-long : {n : ℕ} → 65535 ≤ n → 65535 ≡ limit n
-unfolding limit
-limit-long h = omega arith

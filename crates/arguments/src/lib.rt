@@ -11,10 +11,11 @@ use refusal::Refusal;
 use sheet::Sheet;
 
 // The most bytes that a sheet may have in a buffer of n bytes.
+#[tactic(auto, unfolding(rules::specs::Calls::limit))]
 pub fn sheet_limit(n: usize) -> usize
     ensures { result ≡ limit n }
 {
-    if n < 65535 { n } else { 65535 }
+    n.min(65535)
 }
 
 // The bundle and the sheet of arguments that keep the rules.

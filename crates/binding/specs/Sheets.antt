@@ -15,7 +15,8 @@ use Rattle.rules.proofs.Laws.Sheet.{set-good}
 use Rattle.sheet.specs.Records.{KeepsLayout, records_of, records-good, good-keeps, good-records_of}
 use Rattle.binding.specs.declared.buffer.RecordBuffer.{RecordBuffer}
 use Rattle.binding.specs.declared.sheet_buffer.SheetBuffer.{SheetBuffer}
-use Rattle.binding.specs.Buffer.{bytes_in, SameBuffer, same-refl, same-then, held, Binds, Leaves}
+use Rattle.places.specs.Mark.{good-ascending}
+use Rattle.binding.specs.Buffer.{bytes_in, SameBuffer, InOrder, same-refl, same-then, held, Binds, Leaves}
 
 -- The records of the sheet.
 abbrev pub sheet_in : SheetBuffer → Records
@@ -31,10 +32,14 @@ unfoldable pub ComesTo : {A : Type 0} → Answer Records → SheetBuffer → Res
 ComesTo a c (Ok x) = a ≡ accepted (sheet_in c)
 ComesTo a c (Err e) = a ≡ refused (number e)
 
--- LAWS. The sheet in a buffer is within its limit.
+-- LAWS. The names of a sheet ascend.
+pub sheet-order : (b : SheetBuffer) → InOrder b.records.now
+sheet-order b = record { r = sheet_in b; bytes = b.sheet.written; order = λ _. good-ascending (sheet_in b) word 6 (records-good (bytes_in b.records.now)) }
+
+-- The sheet in a buffer is within its limit.
 pub sheet-within : (b : SheetBuffer) → sheet_length (sheet_in b) ≤ b.records.now.limit
 unfolding sheet_length
-sheet-within b = let r = b.records.now in omega (arith, ap length b.sheet.written, held r, r.fits)
+sheet-within b = let r = b.records.now in omega (arith, ap length b.sheet.written, held r, b.within)
 
 -- One buffer.
 pub sheet-refl : (b : SheetBuffer) → SameSheet b b
@@ -61,23 +66,28 @@ module _ (b : SheetBuffer) {A : Type 0} {name : List ℕ} {v : Value} {w : Recor
   good : good_records (set r name v) word 6 ≡ true
   good = set-good r word 6 name v (records-good (bytes_in b.records.now)) n g
 
-  short : length (bytes_in w) ≤ w.limit
-  short = omega (arith, held w, w.fits)
-
   -- What is left is a sheet.
   pub still-sheet : KeepsLayout (bytes_in w)
   unfolding Leaves
   still-sheet = at o (x.leaves r b.sheet.written)
     where
       at : (o : Result A Refusal) → Leaves b.records.now (encode (set r name v)) w o → KeepsLayout (bytes_in w)
-      at (Ok a) h = good-keeps (set r name v) h good (omega (arith, short, w.small))
+      at (Ok a) h = good-keeps (set r name v) h.0 good
       at (Err e) h = rw h.2 b.sheet
+
+  pub still-within : w.len ≤ w.limit
+  unfolding Leaves
+  still-within = at o (x.leaves r b.sheet.written)
+    where
+      at : (o : Result A Refusal) → Leaves b.records.now (encode (set r name v)) w o → w.len ≤ w.limit
+      at (Ok a) h = omega (arith, ap length h.0, h.1, held w, x.over.limit)
+      at (Err e) h = omega (arith, ap length h.2, held w, held b.records.now, x.over.limit, b.within)
 
   pub sheet-yes : {a : A} → o ≡ Ok a → (records_of (bytes_in w) ≡ set r name v) × (sheet_length (set r name v) ≤ b.records.now.limit)
   unfolding Leaves sheet_length
   sheet-yes {a} e =
       let h : Leaves b.records.now (encode (set r name v)) w (Ok a) = rw e at (x.leaves r b.sheet.written) in
-      (good-records_of (set r name v) h good (omega (arith, short, w.small)), omega (arith, ap length h, short, x.over.limit))
+      (good-records_of (set r name v) h.0 good, h.1)
 
   pub sheet-no : {k : Refusal} → o ≡ Err k → (k ≡ Limit) × (b.records.now.limit < sheet_length (set r name v))
   unfolding Leaves sheet_length

@@ -1,5 +1,7 @@
 // A lent buffer whose first bytes are records, and binding a name among them.
-ghost use Rattle.std.specs.Prelude.{◌≤◌, length};
+ghost use Rattle.std.specs.Prelude.{◌≡◌, true, ◌≤◌, length, take};
+ghost use Rattle.rules.specs.Sheet.{Records, encode};
+ghost use Rattle.places.specs.Mark.{ascending, begins};
 
 use crate::{Room, source_of, text_lead};
 use places::find_place;
@@ -8,15 +10,18 @@ use refusal::Refusal;
 use sheet::Name;
 use sheet::lookup::Found;
 
-// The buffer, how many bytes of records stand at its start, and how many they may come to.
+// The buffer, how many bytes of records stand at its start, and how many they may come to. At `last` the record begins that was bound last, or `last` is
+// 0: names that come in order are found from there, without a walk from the start.
 #[derive(Drop)]
 pub struct RecordBuffer<'a> {
     pub bytes: &'a mut [u8],
     pub len: usize,
     pub limit: usize,
-    ghost fits: { len ≤ limit },
+    pub last: usize,
+    ghost fits: { len ≤ length bytes.now },
     ghost room: { limit ≤ length bytes.now },
     ghost small: { limit ≤ 65535 },
+    ghost place: { (r : Records) → take len bytes.now ≡ encode r → ascending r ≡ true → begins last r ≡ true },
 }
 
 // A binding plans by `find_room`, moves bytes in its way, and writes what stands before the value's own bytes by `put_opening`. A refused one changes
@@ -27,10 +32,8 @@ impl<'a> RecordBuffer<'a> {
     ghost use Rattle.refusal.specs.declared.Refusal.TheVariants.{Limit};
     ghost use Rattle.sheet.specs.Name.{asked};
     ghost use Rattle.sheet.specs.Find.{HasRecords, Tells};
-    ghost use Rattle.places.specs.Mark.{HasMark};
-    ghost use Rattle.record_bytes.specs.Opening.{IsBit};
     ghost use Rattle.binding.specs.Write.{IsSource, HasSource, IsThere};
-    ghost use Rattle.binding.specs.Buffer.{bytes_in, SameBuffer, Plans, Binds, BindsAt};
+    ghost use Rattle.binding.specs.Buffer.{bytes_in, SameBuffer, InOrder, Plans, Binds};
 
     // The bytes of the records.
     pub fn records(&self) -> &[u8]
@@ -50,50 +53,45 @@ impl<'a> RecordBuffer<'a> {
     }
 
     // Plans the binding of a name to a value of these many bytes, unless the records would be over their limit.
-    fn find_room(&self, last: usize, name: Name<'_>, bit: u8, len: usize) -> Result<Room, Refusal>
-        requires { HasMark (bytes_in self.now) last × IsBit bit }
-        ensures { Plans self.now last (asked name.entry) bit len result }
+    fn find_room(&self, name: Name<'_>, lead: Lead, len: usize) -> Result<Room, Refusal>
+        requires { InOrder self.now }
+        ensures { Plans self.now (asked name.entry) lead len result }
     {
         let long = name.len();
         self.within(long)?;
         self.within(len)?;
-        let head = opening_len(long, bit);
+        let head = opening_len(long, lead);
         let s = self.records();
-        let place = find_place(s, last, name);
+        let place = find_place(s, self.last, name);
         let total = place.from + head + len + (s.len() - place.to);
         self.within(total)?;
         Ok(Room { place, head, total })
     }
 
-    // Binds a name to a value with these bytes of its own: where its record begins. At `last` a record begins: names that come in order are found from
-    // there without a walk from the start. At 0 the search starts with the first record.
-    pub fn bind_value_at(
-        &mut self,
-        last: usize,
-        name: Name<'_>,
-        lead: Lead,
-        own: &[u8],
-    ) -> Result<usize, Refusal>
-        requires { HasMark (bytes_in self.old) last × HasSource lead.bit lead.count own.now }
-        ensures { (v : Value) → IsSource v lead.bit lead.count own.now → BindsAt self.old last (asked name.entry) v self.new result }
+    // Binds a name to a value with these bytes of its own. Its place is searched for from the record bound last.
+    pub fn bind_value(&mut self, name: Name<'_>, lead: Lead, own: &[u8]) -> Result<(), Refusal>
+        requires { InOrder self.old × HasSource lead own.now }
+        ensures { (v : Value) → IsSource v lead own.now → Binds self.old (asked name.entry) v self.new result }
     {
-        let p = self.find_room(last, name, lead.bit, own.len())?;
+        let p = self.find_room(name, lead, own.len())?;
         let at = p.place.from + p.head;
+        // No search starts within what is moved.
+        self.last = 0;
         shift(self.bytes, p.place.to, self.len, at + own.len());
         buffers::store(self.bytes, at, own);
         put_opening(self.bytes, p.place.from, name, lead);
         self.len = p.total;
-        Ok(p.place.from)
+        self.last = p.place.from;
+        Ok(())
     }
 
-    // Binds a name to a text.
+    // Binds a name to a text. This and the two below search from the first record.
     pub fn bind_text(&mut self, name: Name<'_>, content: &[u8]) -> Result<(), Refusal>
         requires { HasRecords (bytes_in self.old) }
         ensures { Binds self.old (asked name.entry) (text content.now) self.new result }
     {
-        let lead = text_lead(content.len());
-        self.bind_value_at(0, name, lead, content)?;
-        Ok(())
+        self.last = 0;
+        self.bind_value(name, text_lead(content.len()), content)
     }
 
     // Binds a name to a value that a lookup found in another sheet.
@@ -102,8 +100,8 @@ impl<'a> RecordBuffer<'a> {
         ensures { (v : Value) → Tells other.now v value → Binds self.old (asked name.entry) v self.new result }
     {
         let o = source_of(value);
-        self.bind_value_at(0, name, o.lead, &other[o.own.from..o.own.to])?;
-        Ok(())
+        self.last = 0;
+        self.bind_value(name, o.lead, &other[o.own.from..o.own.to])
     }
 
     // Binds a name to a value that a lookup found among these records.
@@ -113,7 +111,8 @@ impl<'a> RecordBuffer<'a> {
     {
         let o = source_of(value);
         let own = o.own;
-        let p = self.find_room(0, name, o.lead.bit, own.to - own.from)?;
+        self.last = 0;
+        let p = self.find_room(name, o.lead, own.to - own.from)?;
         arrange(
             self.bytes,
             p.place.from + p.head,
@@ -133,6 +132,7 @@ impl<'a> RecordBuffer<'a> {
         ensures over { SameBuffer self.old self.new }
         ensures bytes { bytes_in self.new ≡ records.now }
     {
+        self.last = 0; // Its records are gone.
         buffers::store(self.bytes, 0, records);
         self.len = records.len();
     }

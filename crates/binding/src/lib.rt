@@ -11,7 +11,6 @@ pub mod sheet_buffer;
 
 use record_bytes::Lead;
 use scan::Range;
-use sheet::head::{DICTIONARY, NONE, TEXT};
 use sheet::lookup::Found;
 
 // The part of the records that a record is to stand in place of, with its opening's length and the records' new length.
@@ -29,17 +28,14 @@ pub struct Source {
     pub own: Range,
 }
 
-// What stands before a text of these many bytes; the empty one has no bit.
+// What stands before a text of these many bytes; the empty one has no bit of its own.
 pub fn text_lead(len: usize) -> Lead
-    ensures { (t : List ℕ) → length t ≡ len → IsSource (text t) result.bit result.count t }
+    ensures { (t : List ℕ) → length t ≡ len → IsSource (text t) result t }
 {
     if len == 0 {
-        return Lead { bit: 0, count: 0 };
+        return Lead::Empty;
     }
-    Lead {
-        bit: TEXT,
-        count: len,
-    }
+    Lead::Text(len)
 }
 
 // The value that a lookup found.
@@ -48,10 +44,7 @@ fn source_of(value: Found) -> Source
 {
     match value {
         Found::Nothing => Source {
-            lead: Lead {
-                bit: NONE,
-                count: 0,
-            },
+            lead: Lead::Nothing,
             own: Range { from: 0, to: 0 },
         },
         Found::Text(own) => Source {
@@ -59,10 +52,7 @@ fn source_of(value: Found) -> Source
             own,
         },
         Found::Dictionary { records, count } => Source {
-            lead: Lead {
-                bit: DICTIONARY,
-                count,
-            },
+            lead: Lead::Dictionary(count),
             own: records,
         },
     }

@@ -1,15 +1,17 @@
 // A lent buffer whose first bytes are a sheet.
+ghost use Rattle.std.specs.Prelude.{◌≤◌};
 ghost use Rattle.sheet.specs.Records.{KeepsLayout};
 ghost use Rattle.binding.specs.Buffer.{bytes_in};
 
 use crate::buffer::RecordBuffer;
 use sheet::Sheet;
 
-// A buffer whose records are a sheet.
+// A buffer whose records are a sheet within its limit.
 #[derive(Drop)]
 pub struct SheetBuffer<'a, 'b> {
     pub records: &'a mut RecordBuffer<'b>,
     ghost sheet: { KeepsLayout (bytes_in records.now) },
+    ghost within: { records.now.len ≤ records.now.limit },
 }
 
 impl<'a, 'b> SheetBuffer<'a, 'b> {

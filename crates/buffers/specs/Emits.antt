@@ -1,14 +1,15 @@
 -- What a step writes, put by the buffers' writer: the contracts of the writing functions, and one loop that writes step after step.
-use Rattle.std.specs.Prelude.{◌≡◌, Bool, false, leb, take}
+use Rattle.std.specs.Prelude.{◌≡◌, Bool, false, leb, take, drop}
 use Rattle.std.proofs.Math.Path.{refl, sym, ap}
-use Rattle.std.proofs.Common.{◌∙◌, true≢false, arith, length-append}
+use Rattle.std.proofs.Common.{◌∙◌, true≢false, arith, length-append, length-take-le, drop_at}
 use mathlib.Core.List.{List, [], ◌++◌, append_assoc, append-nil}
 use Rattle.std.proofs.Math.Bool.{true}
 use Prim.Native.Nat.{ℕ, ◌+◌, ◌-◌, ◌≤◌, ◌<◌}
 use Rattle.std.proofs.Math.Decide.{dec_le}
 use Rattle.std.proofs.Math.Nat.{sub-zero}
 use Rattle.std.proofs.Math.ListN.{length}
-use Rattle.std.proofs.lemmas.List.Edits.{sets}
+use Rattle.std.proofs.lemmas.List.Edits.{sets, sets-eq}
+use Rattle.std.proofs.Math.Seq.{take-append_seam}
 use borrow.Author.Tests.{le-leb, lt-leb}
 use Rattle.rules.specs.Answer.{Answer, refused, accepted, ◌>>=◌, ◌>>◌, check}
 use Rattle.rules.specs.Run.{Emit, ok, put, fail, and_then, Did, Trace, fin, step, emitted, final, write, limited}
@@ -172,6 +173,35 @@ written-first {b = b} {c = c} {q = q} w z l =
 -- A refusal.
 pub emits-fail : (full room : ℕ) (b : List ℕ) (p k q : ℕ) → Emits full room (fail k) b p b false k q
 emits-fail full room b p k q = record { size = refl; goes = λ z. absurd (true≢false (sym z)); stops = λ z. (unfold write in refl) }
+
+-- THE SAME FOR EVERY BUFFER: what is answered does not depend on it.
+module _ {full room : ℕ} {e : Emit} {p : ℕ} {b c : List ℕ} {fine : Bool} {k q : ℕ} (s : Emits full room e b p c fine k q) {b₂ c₂ : List ℕ} {fine₂ : Bool} {k₂ q₂ : ℕ} (t : Emits full room e b₂ p c₂ fine₂ k₂ q₂) where
+  pub same-fine : fine ≡ fine₂
+  same-fine = at fine fine₂ refl refl
+    where
+      at : (x y : Bool) → fine ≡ x → fine₂ ≡ y → fine ≡ fine₂
+      at true true u v = u ∙ sym v
+      at false false u v = u ∙ sym v
+      at true false u v = absurd (not-both (sym (t.stops v) ∙ (s.goes u).says))
+      at false true u v = absurd (not-both (sym (s.stops u) ∙ (t.goes v).says))
+
+  pub same_number : fine ≡ false → k ≡ k₂
+  same_number h = let z = sym (s.stops h) ∙ t.stops (sym same-fine ∙ h) in cc
+
+  pub same_place : fine ≡ true → q ≡ q₂
+  same_place h =
+      let w = s.goes h in
+      let y = t.goes (sym same-fine ∙ h) in
+      w.fills.place ∙ ap (λ z. p + length z) (accepted-same (sym w.says ∙ y.says)) ∙ sym y.fills.place
+
+-- In a buffer as long as the room the whole text stands.
+pub emits-stands : {full room : ℕ} {e : Emit} {p : ℕ} {b c : List ℕ} {k q : ℕ} (s : Emits full room e b p c true k q) → length b ≡ room → take (q - p) (drop p c) ≡ (s.goes refl).text
+emits-stands {room = room} {p = p} {b = b} {c = c} {q = q} s l =
+    let w = s.goes refl in
+    let v = w.text in
+    let n : q - p ≡ length v = omega (arith, w.fills.place) in
+    let h : length (take p b) ≡ p = length-take-le p b (omega (arith, w.fills.place, w.fits)) in
+    ap (λ z. take (q - p) (drop p z)) (w.fills.stored ∙ sets-eq v b p (omega (arith, w.fills.place, w.fits)) ∙ append_assoc (take p b) v (drop (p + length v) b)) ∙ ap (take (q - p)) (drop_at (take p b) (v ++ drop (p + length v) b) p h) ∙ ap (λ z. take z (v ++ drop (p + length v) b)) n ∙ take-append_seam v (drop (p + length v) b)
 
 -- A RUN with a limit for its state: what each step writes, or 9.
 module _ {S : Type 0} (size : S → ℕ) (L : ℕ) where

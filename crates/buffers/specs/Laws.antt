@@ -1,4 +1,4 @@
--- Places behind so many bytes, and stores one behind the other.
+-- Stores one behind the other.
 use Rattle.std.specs.Prelude.{◌≡◌, refl, List, [], ◌∷◌, ◌++◌, ℕ, suc, ◌+◌, ◌-◌, ◌≤◌, ◌<◌, min, length, take, drop, set}
 use Rattle.std.proofs.Common.{sym, ap, ◌∙◌, add-zero, take-append-drop, length-take-le, take_all}
 use native.Mathlib.Omega.{arith}
@@ -6,38 +6,6 @@ use Rattle.std.proofs.Math.Decide.{dec_le}
 use Rattle.std.proofs.lemmas.List.Edits.{sets, sets-eq}
 use Rattle.std.proofs.Math.Seq.{set_out, length-sets, take-append_seam}
 use Rattle.std.proofs.lemmas.List.{set_comm, take-set-le}
-use Rattle.buffers.specs.Put.{after}
-
--- PLACES.
-module _ (room p n : ℕ) where
-  pub after-fits : after room p n ≤ room → after room p n ≡ p + n
-  unfolding after
-  after-fits h = omega arith
-
-  pub after-inside : p + n ≤ room → after room p n ≡ p + n
-  unfolding after
-  after-inside h = omega arith
-
-  pub after-not : room < after room p n → room < p + n
-  unfolding after
-  after-not h = omega arith
-
-  pub after-bound : after room p n ≤ room + 1
-  unfolding after
-  after-bound = omega arith
-
-  -- What was measured as far as the room goes counts as the whole.
-  pub after-measured : after room p (after room 0 n) ≡ after room p n
-  unfolding after
-  after-measured = omega arith
-
-  pub after_more : (m : ℕ) → after room (after room p n) m ≡ after room p (n + m)
-  unfolding after
-  after_more m = omega arith
-
-pub after_none : (room p : ℕ) → p ≤ room + 1 → after room p 0 ≡ p
-unfolding after
-after_none room p h = omega arith
 
 -- STORES.
 pub sets-out : (b : List ℕ) (p : ℕ) (v : List ℕ) → length b ≤ p → sets b p v ≡ b

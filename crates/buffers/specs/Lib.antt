@@ -1,4 +1,3 @@
-pub mod Put
 pub mod Laws
 pub mod Emits
 pub mod Copies

@@ -1,10 +1,10 @@
 // Writing into lent buffers: a text stored at a place, the writer that knows how much room there is, zero fill.
 #![tactic(auto)]
 
-ghost use Rattle.std.specs.Prelude.{◌≡◌, ◌+◌, ◌^◌, ◌≤◌, ◌<◌, length, take};
+ghost use Rattle.std.specs.Prelude.{◌≡◌, ◌+◌, ◌≤◌, length, take};
+ghost use Rattle.std.specs.Option.{SomeIff};
 ghost use Rattle.std.proofs.lemmas.List.Edits.{sets};
 ghost use Rattle.rules.specs.Calls.{padded};
-ghost use Rattle.buffers.specs.Put.{after};
 
 pub mod writer;
 
@@ -17,17 +17,14 @@ pub fn store(out: &mut [u8], at: usize, text: &[u8])
     out[start..start + n].copy_from_slice(&text[..n]);
 }
 
-// Where a writer at p goes on behind n bytes: up to the room all has fitted, beyond it not.
-#[tactic(auto, unfolding(crate::specs::Put::after))]
-pub fn after(room: usize, p: usize, n: usize) -> usize
-    requires { room + 1 < 2 ^ 64 }
-    ensures { result ≡ after room p n }
+// Where a writer at p goes on behind n bytes; none where there is no room for them.
+pub fn within(room: usize, p: usize, n: usize) -> Option<usize>
+    ensures { SomeIff result (p + n ≤ room) (p + n) }
 {
     if room < p || room - p < n {
-        room + 1
-    } else {
-        p + n
+        return None;
     }
+    Some(p + n)
 }
 
 // Zeros from a place on.

@@ -1,50 +1,69 @@
 // A writer: texts are put one behind the other into a lent buffer, as long as there is room.
-ghost use Rattle.std.specs.Prelude.{◌≡◌, [], ◌∷◌, ◌≤◌, length};
+ghost use Rattle.std.specs.Prelude.{◌≡◌, [], ◌∷◌, ◌≤◌, length, take};
 
 use crate::store;
 use refusal::Refusal;
 
-// The buffer, the place behind what has been put, and what is told where there is no room.
+// The buffer, the room, the place behind what has been put, and what is told where there is no room. A buffer that is shorter than the room takes as
+// much as it has bytes for: an empty one takes nothing, and what is put is only measured.
 #[derive(Drop)]
 pub struct Writer<'a> {
     pub out: &'a mut [u8],
+    pub room: usize,
     pub at: usize,
     pub full: Refusal,
-    ghost within: { at ≤ length out.now },
+    ghost within: { at ≤ room },
+    ghost enough: { length out.now ≤ room },
 }
 
 impl<'a> Writer<'a> {
-    ghost use Rattle.rules.specs.Run.{put, ok};
-    ghost use Rattle.buffers.specs.Wrote.{Wrote, Begins};
+    ghost use Rattle.buffers.specs.Wrote.{Puts, Begins};
 
-    // A writer at the start of a buffer.
+    // A writer at the start of a buffer, with room for as much as the buffer has bytes.
     pub fn new(out: &'a mut [u8], full: Refusal) -> Writer<'a>
         ensures { Begins out.entry full result }
     {
-        Writer { out, at: 0, full }
+        let room = out.len();
+        Writer {
+            out,
+            room,
+            at: 0,
+            full,
+        }
     }
 
-    // Puts a text, if there is room for all of it.
+    // Puts a text. Where there is no room for all of it that is told, and there is none for what comes behind.
     pub fn put(&mut self, text: &[u8]) -> Result<(), Refusal>
-        ensures { Wrote (put text.now ok) self.old self.new result }
+        ensures { Puts text.now self.old self.new result }
     {
-        if self.out.len() - self.at < text.len() {
+        store(self.out, self.at, text);
+        if self.room - self.at < text.len() {
+            self.at = self.room;
             return Err(self.full);
         }
-        store(self.out, self.at, text);
         self.at += text.len();
         Ok(())
     }
 
-    // Puts one byte, if there is room for it. As a text of one byte it would be copied by a call.
+    // Puts one byte. As a text of one byte it would be copied by a call.
     pub fn put_byte(&mut self, x: u8) -> Result<(), Refusal>
-        ensures { Wrote (put (x ∷ []) ok) self.old self.new result }
+        ensures { Puts (x ∷ []) self.old self.new result }
     {
-        if self.out.len() <= self.at {
+        if self.at < self.out.len() {
+            self.out[self.at] = x;
+        } else if self.room <= self.at {
             return Err(self.full);
         }
-        self.out[self.at] = x;
         self.at += 1;
         Ok(())
+    }
+
+    // What stands in the buffer up to the writer's place.
+    pub fn text(self) -> &'a [u8]
+        ensures { result.now ≡ take self.entry.at self.entry.out.now }
+    {
+        let n = self.at.min(self.out.len());
+        let out = self.out;
+        &out[..n]
     }
 }

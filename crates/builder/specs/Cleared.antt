@@ -20,10 +20,6 @@ all-zero o₂ e h = sym (h ∙ simp sub-zero (ap zeros e))
 
 -- A text's answer.
 module _ {n : ℕ} (o₂ : List ℕ) (size : length o₂ ≡ n) where
-  pub text-fits : (r : Result ℕ Refusal) (t : Text) → IfOk r (λ k. k ≤ n) → IsTextOf r t → t.len ≤ length o₂
-  text-fits (Ok k) t fits e = rw e (omega arith)
-  text-fits (Err f) t fits e = rw e (omega arith)
-
   pub text-cleared : (r : Result ℕ Refusal) (t : Text) {a : Answer (List ℕ)} {o₃ : List ℕ} → IfOk r (λ k. k ≤ n) → a ≡ first_bytes o₂ r → IsTextOf r t → o₃ ≡ padded (length o₂) (take t.len o₂) → output_answer n a ≡ record { number = t.number; len = t.len; out = o₃ }
   unfolding output_answer first_bytes
   text-cleared (Ok k) t fits is e x = ap (output_answer n) is ∙ rw e (λ i. record { number = 0; len = length-take-le k o₂ (omega arith) i; out = behind o₂ k size (rw e at x) i })

@@ -17,10 +17,6 @@ IsDefinedOf (Err refusal) answer = answer ≡ record { number = number refusal; 
 
 -- LAWS.
 module _ {a : Answer Records} {l l₂ w w₂ : List ℕ} where
-  pub definitions-fits : (r : Result ℕ Refusal) (d : Defined) → Defines a l l₂ w w₂ r → IsDefinedOf r d → d.sheet ≤ length l₂
-  definitions-fits (Ok n) d p q = let h : n ≤ length l = p.fits in rw q (omega (arith, p.left-size))
-  definitions-fits (Err k) d p q = rw q (omega arith)
-
   pub definitions-cleared : (r : Result ℕ Refusal) (d : Defined) {l₃ w₃ : List ℕ} → Defines a l l₂ w w₂ r → IsDefinedOf r d → l₃ ≡ padded (length l₂) (take d.sheet l₂) → w₃ ≡ padded (length w₂) (take 0 w₂) →
       defined_answer (length l) (length w) a ≡ record { number = d.number; sheet_len = d.sheet; left = l₃; work = w₃ }
   unfolding defined_answer

@@ -29,10 +29,6 @@ IsFoundFileOf (Err refusal) answer = answer ≡ record { number = number refusal
 
 -- LAWS.
 module _ {s p o o₂ : List ℕ} where
-  pub lookup-fits : (r : Result (Option Value) Refusal) (t : Resolved) → Resolves s p o o₂ r → IsResolvedOf r t → t.len ≤ length o₂
-  lookup-fits (Ok x) t q e = let h : text_len x ≤ length o = q.fits in rw e (omega (arith, q.size))
-  lookup-fits (Err k) t q e = rw e (omega arith)
-
   pub lookup-cleared : (r : Result (Option Value) Refusal) (t : Resolved) {o₃ : List ℕ} → Resolves s p o o₂ r → IsResolvedOf r t → o₃ ≡ padded (length o₂) (take t.len o₂) → resolve_of s p (length o) ≡ record { number = t.number; kind = t.kind; len = t.len; out = o₃ }
   unfolding resolve_of looked_answer
   lookup-cleared (Ok x) t {o₃} q e z =

@@ -1,6 +1,6 @@
 -- What an expansion and a pass came to as the answers of the calls, once the buffers are cleared behind their results.
-use Rattle.std.specs.Prelude.{◌≡◌, ◌≤◌, false, List, ℕ, Result, Ok, Err, length, take}
-use Rattle.std.proofs.Common.{sym, ap, ◌∙◌, arith, length-take-le}
+use Rattle.std.specs.Prelude.{◌≡◌, false, List, ℕ, Result, Ok, Err, length, take}
+use Rattle.std.proofs.Common.{sym, ap, ◌∙◌, length-take-le}
 use Rattle.rules.specs.Answer.{Answer}
 use Rattle.rules.specs.Sheet.{Records, encode}
 use Rattle.rules.specs.Calls.{padded, expanded_answer, preprocess_typst_of, passed_answer, closed_of, pass_of}
@@ -8,7 +8,7 @@ use Rattle.refusal.specs.declared.Refusal.{Refusal}
 use Rattle.refusal.specs.Numbers.{number}
 use Rattle.runs.specs.declared.expansion_call.Expanded.{Expanded as Ran}
 use Rattle.runs.specs.declared.pass_call.Passed.{Passed as Pass}
-use Rattle.runs.specs.Expansion.{Leaves, ExpandsText}
+use Rattle.runs.specs.Expansion.{Results, ExpandsText}
 use Rattle.runs.specs.Pass.{setting_of, Passes}
 use Rattle.builder.specs.declared.Expanded.{Expanded}
 use Rattle.builder.specs.declared.Passed.{Passed}
@@ -25,7 +25,7 @@ IsPassedOf (Ok pass) answer = answer ≡ record { number = 0; len = pass.len; sh
 IsPassedOf (Err refusal) answer = answer ≡ record { number = number refusal; len = 0; sheet = 0; closed = false }
 
 -- LAWS. The sheet that is left.
-module _ {a : Answer (List ℕ × Records)} {c m : List ℕ} {k j : ℕ} (L : Leaves a c m k j) where
+module _ {a : Answer (List ℕ × Records)} {c m : List ℕ} {k j : ℕ} (L : Results a c m k j) where
   sheet-long : length (encode L.records) ≡ j
   sheet-long = ap length (sym L.sheet-is) ∙ length-take-le j m L.sheet-fits
 
@@ -33,10 +33,6 @@ module _ {a : Answer (List ℕ × Records)} {c m : List ℕ} {k j : ℕ} (L : Le
   sheet-behind {n} e x = ap (padded n) (sym L.sheet-is) ∙ behind m j e x
 
 module _ {b t z o o₂ l l₂ : List ℕ} where
-  pub expansion-fits : (r : Result Ran Refusal) (e : Expanded) → ExpandsText b t z o o₂ l l₂ r → IsExpandedOf r e → (e.len ≤ length o₂) × (e.sheet ≤ length l₂)
-  expansion-fits (Ok x) e p q = let i = p.is in rw q (i.fits, i.sheet-fits)
-  expansion-fits (Err k) e p q = rw q (omega arith, omega arith)
-
   pub expansion-cleared : (r : Result Ran Refusal) (e : Expanded) {o₃ l₃ : List ℕ} → ExpandsText b t z o o₂ l l₂ r → IsExpandedOf r e → o₃ ≡ padded (length o₂) (take e.len o₂) → l₃ ≡ padded (length l₂) (take e.sheet l₂) →
       preprocess_typst_of b t z (length o) (length l) ≡ record { number = e.number; len = e.len; sheet_len = e.sheet; out = o₃; left = l₃ }
   unfolding preprocess_typst_of expanded_answer
@@ -49,10 +45,6 @@ module _ {b t z o o₂ l l₂ : List ℕ} where
       ∙ rw q (λ j. record { number = number k; len = 0; sheet_len = 0; out = all-zero o₂ p.out-size (rw q at y) j; left = all-zero l₂ p.left-size (rw q at w) j })
 
 module _ {b g t z m m₂ o o₂ l l₂ : List ℕ} where
-  pub pass-fits : (r : Result Pass Refusal) (e : Passed) → Passes b g t z m m₂ o o₂ l l₂ r → IsPassedOf r e → (e.len ≤ length o₂) × (e.sheet ≤ length l₂)
-  pass-fits (Ok x) e p q = let i = p.is in rw q (i.0.fits, i.0.sheet-fits)
-  pass-fits (Err k) e p q = rw q (omega arith, omega arith)
-
   pub pass-cleared : (r : Result Pass Refusal) (e : Passed) {m₃ o₃ l₃ : List ℕ} → Passes b g t z m m₂ o o₂ l l₂ r → IsPassedOf r e → m₃ ≡ padded (length m₂) (take 0 m₂) → o₃ ≡ padded (length o₂) (take e.len o₂) → l₃ ≡ padded (length l₂) (take e.sheet l₂) →
       pass_of (setting_of b g (length m) (length o) (length l)) z t ≡ record { number = e.number; len = e.len; sheet_len = e.sheet; closed = e.closed; middle = m₃; out = o₃; left = l₃ }
   unfolding pass_of passed_answer

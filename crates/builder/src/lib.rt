@@ -17,7 +17,7 @@ use sheet::lookup::Found as Value;
 
 // A lookup's answer. Kind: 0 missing, 1 none, 2 text, 3 dictionary. Of a text, its length in the output buffer; else 0.
 #[repr(C)]
-#[derive(Clone, Copy)]
+#[derive(Clone, Copy, Default)]
 pub struct Resolved {
     pub number: u8,
     pub kind: u8,
@@ -26,7 +26,7 @@ pub struct Resolved {
 
 // A text's answer: its length in the output buffer.
 #[repr(C)]
-#[derive(Clone, Copy)]
+#[derive(Clone, Copy, Default)]
 pub struct Text {
     pub number: u8,
     pub len: usize,
@@ -40,7 +40,7 @@ impl From<Result<usize, Refusal>> for Text {
             Ok(len) => Text { number: 0, len },
             Err(refusal) => Text {
                 number: refusal.into(),
-                len: 0,
+                ..Text::default()
             },
         }
     }
@@ -82,8 +82,7 @@ impl From<Result<Option<Value>, Refusal>> for Resolved {
             },
             Err(refusal) => Resolved {
                 number: refusal.into(),
-                kind: 0,
-                len: 0,
+                ..Resolved::default()
             },
         }
     }
@@ -119,7 +118,7 @@ pub fn test_load(seed: u32, definitions: bool, out: &mut [u8]) -> Text
 
 // An expansion's answer: the lengths of the text in the output buffer and of the sheet that is left.
 #[repr(C)]
-#[derive(Clone, Copy)]
+#[derive(Clone, Copy, Default)]
 pub struct Expanded {
     pub number: u8,
     pub len: usize,
@@ -138,8 +137,7 @@ impl From<Result<runs::expansion_call::Expanded, Refusal>> for Expanded {
             },
             Err(refusal) => Expanded {
                 number: refusal.into(),
-                len: 0,
-                sheet: 0,
+                ..Expanded::default()
             },
         }
     }
@@ -165,7 +163,7 @@ pub fn preprocess_typst(
 
 // The answer of the definitions call: the length of the sheet.
 #[repr(C)]
-#[derive(Clone, Copy)]
+#[derive(Clone, Copy, Default)]
 pub struct Defined {
     pub number: u8,
     pub sheet: usize,
@@ -179,7 +177,7 @@ impl From<Result<usize, Refusal>> for Defined {
             Ok(sheet) => Defined { number: 0, sheet },
             Err(refusal) => Defined {
                 number: refusal.into(),
-                sheet: 0,
+                ..Defined::default()
             },
         }
     }
@@ -197,7 +195,7 @@ pub fn parse_definitions(bundle: &[u8], path: &[u8], left: &mut [u8], work: &mut
 
 // A pass's answer: the lengths of the text in the output buffer and of the sheet that is left, and whether the text is closed.
 #[repr(C)]
-#[derive(Clone, Copy)]
+#[derive(Clone, Copy, Default)]
 pub struct Passed {
     pub number: u8,
     pub len: usize,
@@ -218,9 +216,7 @@ impl From<Result<runs::pass_call::Passed, Refusal>> for Passed {
             },
             Err(refusal) => Passed {
                 number: refusal.into(),
-                len: 0,
-                sheet: 0,
-                closed: false,
+                ..Passed::default()
             },
         }
     }
@@ -250,7 +246,7 @@ pub fn pass(
 
 // What a path is in a bundle. Kind: 0 absent, 1 folder, 2 file; a file's content stands at `start` in the bundle.
 #[repr(C)]
-#[derive(Clone, Copy)]
+#[derive(Clone, Copy, Default)]
 pub struct FoundFile {
     pub number: u8,
     pub kind: u8,
@@ -262,24 +258,21 @@ impl From<Result<Found, Refusal>> for FoundFile {
     ghost from_gives = { IsFoundFileOf };
 
     fn from(found: Result<Found, Refusal>) -> FoundFile {
-        let none = FoundFile {
-            number: 0,
-            kind: 0,
-            start: 0,
-            len: 0,
-        };
         match found {
-            Ok(Found::Absent) => none,
-            Ok(Found::Folder) => FoundFile { kind: 1, ..none },
+            Ok(Found::Absent) => FoundFile::default(),
+            Ok(Found::Folder) => FoundFile {
+                kind: 1,
+                ..FoundFile::default()
+            },
             Ok(Found::File(content)) => FoundFile {
                 kind: 2,
                 start: content.from,
                 len: content.to.saturating_sub(content.from),
-                ..none
+                ..FoundFile::default()
             },
             Err(refusal) => FoundFile {
                 number: refusal.into(),
-                ..none
+                ..FoundFile::default()
             },
         }
     }

@@ -5,7 +5,7 @@ use Rattle.std.proofs.lemmas.Bool.{lt-leb}
 use Rattle.std.proofs.Common.{◌∙◌, true≢false, eq-eqb, eqb-true}
 use mathlib.Core.List.{List, [], ◌∷◌, ◌++◌}
 use Rattle.std.proofs.Math.Bool.{and_assoc, or_assoc, or-false}
-use Rattle.std.proofs.Math.Option.{Option, none, some}
+use Rattle.std.proofs.Math.Option.{Option, none, some, none-ne-some}
 use native.Mathlib.Omega.{arith}
 use Rattle.std.proofs.Math.Decide.{dec_le}
 use Rattle.std.proofs.Math.ListN.{length, drop, length-drop}
@@ -62,7 +62,7 @@ pub record Finds (b : List ℕ) (es : List Entry) (p : List ℕ) (r : Found) : T
   pub inside : Inside b r
 
 -- TWO PATHS.
-eqb_comm : (a b : ℕ) → eqb a b ≡ eqb b a
+pub eqb_comm : (a b : ℕ) → eqb a b ≡ eqb b a
 eqb_comm a b = at (eqb a b) (eqb b a) refl refl
   where
     at : (c d : Bool) → eqb a b ≡ c → eqb b a ≡ d → eqb a b ≡ eqb b a
@@ -149,28 +149,25 @@ record Cut (p : Parser Entry) (t : List ℕ) (n : ℕ) (fs : List Entry) (u : Li
   pub rest : times n p mid ≡ some (later, u)
   pub split : fs ≡ first ∷ later
 
-none-some : {A : Type 0} {a : A} {P : Type 0} → ◌≡◌ {A = Option A} none (some a) → P
-none-some h = let z : ◌≡◌ {A = ℕ} 0 1 = cc in absurd (omega arith)
-
 cut : (p : Parser Entry) (t : List ℕ) (n : ℕ) {fs : List Entry} {u : List ℕ} → times (suc n) p t ≡ some (fs, u) → Cut p t n fs u
 unfolding times ◌>>=◌ bind pure
 cut p t n {fs} {u} h = at (p t) refl
   where
     at2 : (e : Entry) (m : List ℕ) → p t ≡ some (e, m) → (v : Option (List Entry × List ℕ)) → times n p m ≡ v → Cut p t n fs u
-    at2 e m q none z = none-some (rw (q, z) at h)
+    at2 e m q none z = absurd (none-ne-some _ (rw (q, z) at h))
     at2 e m q (some s) z =
         let k : ◌≡◌ {A = Option (List Entry × List ℕ)} (some (e ∷ s.0, s.1)) (some (fs, u)) = rw (q, z) at h in
         let k2 : ◌≡◌ {A = List Entry × List ℕ} (e ∷ s.0, s.1) (fs, u) = some_same k in
         record { first = e; mid = m; later = s.0; one = q; rest = z ∙ ap (λ y. some (s.0, y)) (ap (λ y. y.1) k2); split = sym (ap (λ y. y.0) k2) }
 
     at : (v : Option (Entry × List ℕ)) → p t ≡ v → Cut p t n fs u
-    at none q = none-some (rw q at h)
+    at none q = absurd (none-ne-some _ (rw q at h))
     at (some r) q = at2 r.0 r.1 q (times n p r.1) refl
 
 -- The entry of the search that stands at i, if one is left.
 pub is-there : {b p : List ℕ} {n i : ℕ} {f : Bool} → Finding b p n i f → (m : ℕ) → n ≡ suc m → (v : Maybe Head) → HeadAt b (entry (length b)) i v → IsSome v
 is-there F m z (Some h) H = refl
-is-there {b} {p} {n} {i} F m z None H = none-some (sym H ∙ (cut (entry (length b)) (drop i b) m (rw z at F.rest)).one)
+is-there {b} {p} {n} {i} F m z None H = absurd (none-ne-some _ (sym H ∙ (cut (entry (length b)) (drop i b) m (rw z at F.rest)).one))
 
 pub record Ahead (b p : List ℕ) (m : ℕ) (f : Bool) (h : Head) : Type 0 where
   pub later : List Entry

@@ -1,5 +1,5 @@
 -- Opening a file, and the search for `CITATION.cff`.
-use Rattle.std.specs.Prelude.{Result, Ok, Err, ◌≡◌, refl, Bool, true, false, length}
+use Rattle.std.specs.Prelude.{Result, Ok, Err, ◌≡◌, ◌⊎◌, refl, Bool, true, false, length}
 use Rattle.std.proofs.Math.Path.{sym}
 use Rattle.std.specs.Borrow.{Bor}
 use Rattle.std.proofs.lemmas.Bool.{lt-leb}
@@ -13,16 +13,30 @@ use Rattle.rules.specs.Bytes.{ascii, is_path, join, parent, holds}
 use Rattle.rules.specs.Bundle.{Entry}
 use Rattle.rules.specs.Files.{View, view, content_of, fetch, plain, opened, exists, has_citation, upward, project_root}
 use Rattle.paths.specs.Paths.{path-long}
+use Rattle.paths.specs.Joined.{text}
 use Rattle.bundle.specs.Find.{Finds, file_at}
+use Rattle.paths.specs.declared.path.Path.{Path}
+use Rattle.bundle.specs.declared.File.{File}
 use Rattle.bundle.specs.declared.Found.{Found}
 use Rattle.bundle.specs.declared.Found.TheVariants.{Absent, Folder, File as At}
 use Rattle.refusal.specs.Numbers.{number}
 use Rattle.refusal.specs.declared.Refusal.{Refusal}
+use Rattle.refusal.specs.declared.Refusal.TheVariants.{Byte, Level}
 
 -- The text that was asked for, or 01's number.
 abbrev pub Answers : Answer (List ℕ) → Result (Bor (List ℕ)) Refusal → Type 0
 Answers a (Ok t) = a ≡ accepted t.now
 Answers a (Err e) = a ≡ refused (number e)
+
+-- The text t, opened with l levels left; or 7 where none is left, or 6 where t holds a byte from 128.
+abbrev pub OpensWithin : List ℕ → ℕ → Result (Bor (List ℕ)) Refusal → Type 0
+OpensWithin t l (Ok s) = (0 < l) × (all ascii t ≡ true) × (s.now ≡ t)
+OpensWithin t l (Err k) = ((l ≡ 0) × (k ≡ Level)) ⊎ ((0 < l) × (all ascii t ≡ false) × (k ≡ Byte))
+
+-- A path joined to a folder; or 4 where that is longer than a path may be.
+abbrev pub JoinsWithin : List ℕ → List ℕ → Result Path Refusal → Type 0
+JoinsWithin g p (Ok q) = text q ≡ join g p
+JoinsWithin g p (Err k) = (255 < length (join g p)) × (number k ≡ 4)
 
 -- FETCHING: 4, then 5.
 module _ (es : List Entry) (p : List ℕ) {c : Bool} (e : c ≡ is_path p) where

@@ -8,7 +8,7 @@ ghost use Rattle.rules.specs.Answer.{is_some};
 ghost use Rattle.rules.specs.Files.{view, fetch, opened, has_citation, project_root};
 ghost use Rattle.paths.specs.Joined.{text};
 ghost use Rattle.bundle.specs.Find.{Finds, entries_of};
-ghost use Rattle.bundle.specs.Open.{Answers, there};
+ghost use Rattle.bundle.specs.Open.{Answers, JoinsWithin, OpensWithin, there};
 
 use bundle_entries::{entry_at, path_of};
 use paths::{Path, Range, is_path, join, parent};
@@ -38,6 +38,26 @@ impl File<'_> {
     {
         parent(self.path.as_bytes())
     }
+}
+
+// A file's text, opened with so many levels left: 7 where none is left, then 6 where the text holds a byte from 128.
+pub fn open_within(text: &[u8], levels: usize) -> Result<&[u8], Refusal>
+    ensures { OpensWithin text.now levels result }
+{
+    if levels == 0 {
+        return Err(Refusal::Level);
+    }
+    if !scan::is_ascii(text) {
+        return Err(Refusal::Byte);
+    }
+    Ok(text)
+}
+
+// Joins a path to a folder: 4 where that is longer than a path may be.
+pub fn joined(folder: &[u8], path: &[u8]) -> Result<Path, Refusal>
+    ensures { JoinsWithin folder.now path.now result }
+{
+    join(folder, path).ok_or(Refusal::Path)
 }
 
 // Does p, followed by `/`, begin q?
@@ -120,7 +140,7 @@ impl<'a> Bundle<'a> {
         match self.find(path) {
             Found::Absent => Err(Refusal::File),
             Found::Folder => Err(Refusal::File),
-            Found::File(content) => Ok(&self.bytes[content.from..content.to]),
+            Found::File(content) => Ok(content.of(self.bytes)),
         }
     }
 

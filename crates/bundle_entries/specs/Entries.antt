@@ -20,15 +20,25 @@ use Rattle.scan.specs.Fields.{IsField, FieldAt}
 use Rattle.scan.specs.declared.Range.{Range}
 use Rattle.bundle_entries.specs.declared.Head.{Head}
 
--- A field that is named, or not.
-module _ (b : List ℕ) (i : ℕ) (len : Parser ℕ) {c on : Bool} (q : c ≡ on) where
-  pub field_off : i ≤ length b → c ≡ false → IsField b (field_if on len) i (record { from = i; to = i })
-  unfolding field_if pure
-  field_off h e = let z : i - i ≡ 0 = omega arith in record { reads = rw (sym q ∙ e, z); behind = omega arith; within = record { order = omega arith; inside = h } }
+-- The part that the parser p reads at a place as a field that a map byte names, or not. One that is not named is empty, and stands there.
+pub record IsOptional (b : List ℕ) (p : Parser (List ℕ)) (i : ℕ) (r : Range) : Type 0 where
+  pub reads : p (drop i b) ≡ some (part b r.from r.to, drop r.to b)
+  pub order : r.from ≤ r.to
+  pub inside : i ≤ length b → r.to ≤ length b
 
-  pub field_on : c ≡ true → (r : Maybe Range) → FieldAt b (field len) i r → FieldAt b (field_if on len) i r
+-- That part, or that the parser finds none.
+abbrev pub OptionalAt : List ℕ → Parser (List ℕ) → ℕ → Maybe Range → Type 0
+OptionalAt b p i (Some r) = IsOptional b p i r
+OptionalAt b p i None = p (drop i b) ≡ none
+
+module _ (b : List ℕ) (i : ℕ) (len : Parser ℕ) {c on : Bool} (q : c ≡ on) where
+  pub field_off : c ≡ false → IsOptional b (field_if on len) i (record { from = i; to = i })
+  unfolding field_if pure
+  field_off e = let z : i - i ≡ 0 = omega arith in record { reads = rw (sym q ∙ e, z); order = omega arith; inside = λ h. h }
+
+  pub field_on : c ≡ true → (r : Maybe Range) → FieldAt b (field len) i r → OptionalAt b (field_if on len) i r
   unfolding field_if
-  field_on e (Some r) k = record { reads = rw (sym q ∙ e) k.reads; behind = k.behind; within = k.within }
+  field_on e (Some r) k = record { reads = rw (sym q ∙ e) k.reads; order = k.within.order; inside = λ h. k.within.inside }
   field_on e None k = rw (sym q ∙ e) k
 
 -- Bit k of a map byte is its lowest one, once it is moved down.
@@ -39,6 +49,7 @@ shifted k m = ap (λ z. eqb z 1) (and_mask (m / 2 ^ k) 1)
 -- A file name, for all that may be read behind it.
 pub record IsName (b : List ℕ) (i : ℕ) (r : Range) : Type 0 where
   pub reads : (k : List ℕ → Parser Entry) → (field_if true byte >>= (λ f. require (not (holds "/" f)) >> k f)) (drop i b) ≡ k (part b r.from r.to) (drop r.to b)
+  pub behind : i ≤ r.from
   pub within : Within b r
 
 -- The file name at a place, or that there is none.
@@ -58,7 +69,7 @@ module _ (b : List ℕ) (i : ℕ) where
 
     pub name-some : c ≡ true → IsName b i r
     unfolding field_if ◌>>=◌ ◌>>◌ bind require pure
-    name-some q = record { reads = λ k. rw (f.reads, sym h ∙ q); within = f.within }
+    name-some q = record { reads = λ k. rw (f.reads, sym h ∙ q); behind = f.behind; within = f.within }
 
 -- An entry's fields, once the map byte m is read.
 unfoldable pub entry_fields : ℕ → ℕ → Parser Entry
@@ -95,7 +106,7 @@ module _ (b : List ℕ) (m i : ℕ) where
   unfolding entry_fields ◌>>=◌ bind
   no-folder h = rw h
 
-  module _ {g : Range} (G : IsField b (field_if (bit 0 m) byte) i g) where
+  module _ {g : Range} (G : IsOptional b (field_if (bit 0 m) byte) i g) where
     pub no-name : NameAt b g.to None → entry_fields (length b) m (drop i b) ≡ none
     unfolding entry_fields ◌>>=◌ bind
     no-name N = rw G.reads (N _)
@@ -109,12 +120,18 @@ module _ (b : List ℕ) (m i : ℕ) where
       unfolding ◌>>=◌ bind
       no-content h = behind ∙ rw h
 
-      pub all-fields : {c : Range} → IsField b (field_if (bit 2 m) word16) f.to c → IsHead b (entry_fields (length b) m) i (record { folder = g; name = f; content = c })
+      pub all-fields : {c : Range} → IsOptional b (field_if (bit 2 m) word16) f.to c → IsHead b (entry_fields (length b) m) i (record { folder = g; name = f; content = c })
       unfolding entry_of bind ◌>>=◌ remaining pure
       all-fields {c} C =
-          let k : c.to - c.from ≤ length (drop c.from b) = omega (arith, C.within.order, C.within.inside, length-drop c.from b) in
-          let z : length b - (length (part b c.from c.to) + length (drop c.to b)) ≡ c.from = omega (arith, C.within.order, C.within.inside, length-take-le (c.to - c.from) (drop c.from b) k, length-drop c.to b) in
-          record { reads = behind ∙ rw (C.reads, z); folder = G.within; name = F.within; content = C.within }
+          let e : c.to ≤ length b = C.inside F.within.inside in
+          let k : c.to - c.from ≤ length (drop c.from b) = omega (arith, C.order, length-drop c.from b) in
+          let z : length b - (length (part b c.from c.to) + length (drop c.to b)) ≡ c.from = omega (arith, C.order, length-take-le (c.to - c.from) (drop c.from b) k, length-drop c.to b) in
+          record {
+            reads = behind ∙ rw (C.reads, z);
+            folder = record { order = G.order; inside = omega (arith, F.behind, F.within.order, F.within.inside) };
+            name = F.within;
+            content = record { order = C.order; inside = e };
+          }
 
 -- The ways through an entry.
 module _ (b : List ℕ) (i : ℕ) where

@@ -6,9 +6,8 @@ ghost use Rattle.rules.specs.Layout.{bit, field_if, byte, word16};
 ghost use Rattle.rules.specs.Bytes.{holds};
 ghost use Rattle.rules.specs.Bundle.{entry};
 ghost use Rattle.scan.specs.Sets.{part, Within};
-ghost use Rattle.scan.specs.Fields.{FieldAt};
 ghost use Rattle.paths.specs.Joined.{Joins};
-ghost use Rattle.bundle_entries.specs.Entries.{NameAt, HeadAt, entry_fields};
+ghost use Rattle.bundle_entries.specs.Entries.{OptionalAt, NameAt, HeadAt, entry_fields};
 
 use paths::{Path, Range, join};
 use scan::Set;
@@ -38,8 +37,7 @@ fn allowed(map: u8) -> bool
 
 // An entry's folder; empty where the map names none.
 fn folder(b: &[u8], at: usize, map: u8) -> Option<Range>
-    requires { at ≤ length b.now }
-    ensures { FieldAt b.now (field_if (bit 0 map) byte) at result }
+    ensures { OptionalAt b.now (field_if (bit 0 map) byte) at result }
 {
     if !has(map, FOLDER) {
         return Some(Range { from: at, to: at });
@@ -56,11 +54,10 @@ fn without_slash(text: &[u8]) -> bool
 
 // An entry's file name, which holds no `/`.
 fn name(b: &[u8], at: usize) -> Option<Range>
-    requires { at ≤ length b.now }
     ensures { NameAt b.now at result }
 {
     let name = short_field(b, at)?;
-    if !without_slash(&b[name.from..name.to]) {
+    if !without_slash(name.of(b)) {
         return None;
     }
     Some(name)
@@ -68,8 +65,7 @@ fn name(b: &[u8], at: usize) -> Option<Range>
 
 // An entry's content; empty where the map names none.
 fn content(b: &[u8], at: usize, map: u8) -> Option<Range>
-    requires { at ≤ length b.now }
-    ensures { FieldAt b.now (field_if (bit 2 map) word16) at result }
+    ensures { OptionalAt b.now (field_if (bit 2 map) word16) at result }
 {
     if !has(map, CONTENT) {
         return Some(Range { from: at, to: at });
@@ -87,7 +83,6 @@ pub struct Head {
 
 // The fields behind the map byte.
 fn fields(b: &[u8], at: usize, map: u8) -> Option<Head>
-    requires { at ≤ length b.now }
     ensures { HeadAt b.now (entry_fields (length b.now) map) at result }
 {
     let folder = folder(b, at, map)?;
@@ -102,7 +97,6 @@ fn fields(b: &[u8], at: usize, map: u8) -> Option<Head>
 
 // The entry at a place; none where the layout is broken.
 pub fn entry_at(b: &[u8], at: usize) -> Option<Head>
-    requires { at ≤ length b.now }
     ensures { HeadAt b.now (entry (length b.now)) at result }
 {
     if b.len() <= at {
@@ -119,7 +113,5 @@ pub fn path_of(b: &[u8], h: Head) -> Option<Path>
     requires { Within b.now h.folder × Within b.now h.name }
     ensures { Joins (part b.now h.folder.from h.folder.to) (part b.now h.name.from h.name.to) result }
 {
-    let f = h.folder;
-    let n = h.name;
-    join(&b[f.from..f.to], &b[n.from..n.to])
+    join(h.folder.of(b), h.name.of(b))
 }

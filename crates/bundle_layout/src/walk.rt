@@ -46,7 +46,6 @@ impl Walk {
 
     // One entry more; none where the bundle breaks its layout.
     pub fn next(&mut self, b: &[u8]) -> Option<()>
-        requires { self.old.at ≤ length b.now }
         ensures { Next b.now self.old self.new result }
     {
         let entry = entry_at(b, self.at)?;

@@ -1,4 +1,5 @@
 pub mod Called
 pub mod Measure
+pub mod Meter
 pub mod Met
 pub mod Compare

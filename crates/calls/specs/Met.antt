@@ -13,9 +13,9 @@ unfoldable pub Leaves : Option (Bor (List ℕ)) → List ℕ → Option (Bor (Li
 Leaves None v x = x ≡ None
 Leaves (Some l) v x = MatchOption x ((rest : List ℕ) → l.now ≢ v ++ rest) (λ y. l.now ≡ v ++ y.now)
 
--- The text v is met by a, which is then b.
+-- The text v is met by a, which is then b, with the same sheet.
 abbrev pub Meets : Met → List ℕ → Met → Type 0
-Meets a v b = Leaves a.left v b.left
+Meets a v b = (b.sheet.now ≡ a.sheet.now) × Leaves a.left v b.left
 
 -- Nothing but the empty text is left.
 unfoldable pub all_met : Option (Bor (List ℕ)) → Bool
@@ -34,6 +34,12 @@ leaves-more None b c v w p q = rw p at q
 leaves-more (Some l) None c v w p q = rw q (λ rest e. p (w ++ rest) (e ∙ append_assoc v w rest))
 leaves-more (Some l) (Some x) None v w p q = λ rest e. q rest (append_cancel_left v x.now (w ++ rest) (sym p ∙ e ∙ append_assoc v w rest))
 leaves-more (Some l) (Some x) (Some y) v w p q = p ∙ ap (λ z. v ++ z) q ∙ sym (append_assoc v w y.now)
+
+-- Where nothing is left, nothing is behind more text.
+pub leaves-past : (a b : Option (Bor (List ℕ))) (v w : List ℕ) → b ≡ None → Leaves a v b → Leaves a (v ++ w) b
+unfolding Leaves
+leaves-past None b v w d p = p
+leaves-past (Some l) b v w d p = let n : (rest : List ℕ) → l.now ≢ v ++ rest = rw d at p in rw d (λ rest e. n (w ++ rest) (e ∙ append_assoc v w rest))
 
 -- A text that has come whole is the same as l where all of l is met.
 pub all-same : (l : Bor (List ℕ)) (v : List ℕ) (x : Option (Bor (List ℕ))) → Leaves (Some l) v x → all_met x ≡ same v l.now

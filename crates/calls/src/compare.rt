@@ -1,23 +1,27 @@
 // An expression compared with another text.
-ghost use Rattle.std.specs.Prelude.{◌≡◌, true};
+ghost use Rattle.std.specs.Prelude.{◌≡◌, refl, true, None};
+ghost use Rattle.std.proofs.Common.{◌∙◌};
 ghost use Rattle.rules.specs.Reader.{same};
 ghost use Rattle.rules.specs.Strings.{expression};
 ghost use Rattle.rules.specs.Sheet.{resolve};
 ghost use Rattle.sheet.specs.Records.{records_of};
+ghost use Rattle.strings.specs.Looked.{looks-kept};
 ghost use Rattle.calls.specs.Compare.{Differs};
-ghost use Rattle.calls.specs.Met.{Meets, all_met, leaves-all, leaves-more};
+ghost use Rattle.calls.specs.Met.{Meets, all_met, leaves-all, leaves-more, leaves-past};
 
 use scan::Set;
 use sheet::Sheet;
-use string_ends::Pieces;
+use string_ends::{Pieces, Terms};
+use strings::find_text;
 
-// What is left of another text behind a text that comes piece by piece; none where it does not begin with that.
+// What is left of another text behind a text that comes piece by piece, its references looked up in a sheet; none where it does not begin with that.
 #[derive(Clone, Copy)]
-struct Met<'a> {
-    left: Option<&'a [u8]>,
+struct Met<'a, 's, 'b> {
+    sheet: &'a Sheet<'s>,
+    left: Option<&'b [u8]>,
 }
 
-impl<'a> Met<'a> {
+impl<'a, 's, 'b> Met<'a, 's, 'b> {
     // Is all of it met?
     #[tactic(auto, unfolding(crate::specs::Met::all_met))]
     fn all(self) -> bool
@@ -30,9 +34,7 @@ impl<'a> Met<'a> {
     }
 }
 
-impl<'a> Pieces for Met<'a> {
-    ghost Ready = { λ m. Unit {0} };
-
+impl<'a, 's, 'b> Pieces for Met<'a, 's, 'b> {
     ghost Takes = { Meets };
 
     fn take(&mut self, piece: &[u8]) {
@@ -41,23 +43,40 @@ impl<'a> Pieces for Met<'a> {
         }
     }
 
-    ghost none = { λ a r. leaves-all a.left };
+    ghost none = { λ a. (refl, leaves-all a.left) };
 
-    ghost more = { λ a b c v w p q. leaves-more a.left b.left c.left v w p q };
+    ghost more = { λ a b c v w p q. (q.0 ∙ p.0, leaves-more a.left b.left c.left v w p.1 q.1) };
+}
+
+impl<'a, 's, 'b> Terms for Met<'a, 's, 'b> {
+    ghost Looks = { λ m look. look ≡ resolve (records_of m.sheet.now) };
+
+    fn reference(&mut self, run: &[u8]) {
+        self.take(find_text(self.sheet, run));
+    }
+
+    ghost kept = { λ a b v look p l. looks-kept p.0 l };
+
+    ghost Done = { λ m. m.left ≡ None };
+
+    fn done(&self) -> bool {
+        self.left.is_none()
+    }
+
+    ghost past = { λ a b v w p d. (p.0, leaves-past a.left b.left v w d p.1) };
 }
 
 // Does an expression begin with a literal whose first byte, one that stands for itself, is another than the text's?
 fn begins_otherwise(expression: &[u8], text: &[u8]) -> bool
     ensures { result ≡ true → Differs expression.now text.now }
 {
-    if expression.len() < 2 {
+    let [quote, x, ..] = expression else {
         return false;
-    }
-    if text.len() == 0 {
+    };
+    let [y, ..] = text else {
         return false;
-    }
-    let x = expression[1];
-    (expression[0] == b'"') & scan::member(Set::NotQuoteNorBackslash, x) & (x != text[0])
+    };
+    (*quote == b'"') & scan::member(Set::NotQuoteNorBackslash, *x) & (*x != *y)
 }
 
 // Is an expression's text the same as another text? They are compared while the expression is read, up to the first term that differs.
@@ -67,20 +86,10 @@ pub fn is_text(text: &[u8], sheet: &Sheet<'_>, other: &[u8]) -> bool
     if begins_otherwise(text, other) {
         return false;
     }
-    let mut to = Met { left: Some(other) };
-    let mut i: usize = 0;
-    while to.left.is_some() {
-        let r = strings::read_round(&text[i..], sheet, &mut to);
-        i += r.used;
-        let same = to.all();
-        if !r.found {
-            return same;
-        }
-        i = scan::span(text, i, scan::Set::LineBlank);
-        if !scan::at(text, i, b'+') {
-            return same;
-        }
-        i += 1;
-    }
-    false
+    let mut to = Met {
+        sheet,
+        left: Some(other),
+    };
+    string_ends::expression(text, &mut to);
+    to.all()
 }

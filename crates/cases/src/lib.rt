@@ -32,7 +32,7 @@ impl<'a> Fields<'a> {
 impl<'a> Iterator for Fields<'a> {
     type Item = &'a [u8];
 
-    ghost next_gives = { λ s _ t. length t.0.now ≤ length s.0.now };
+    ghost next_gives = { λ s r t. (length t.0.now ≤ length s.0.now) × IfSome r (λ _. length t.0.now < length s.0.now) };
 
     ghost remaining = { λ s. at_most (length s.0.now) };
 
@@ -43,6 +43,42 @@ impl<'a> Iterator for Fields<'a> {
         let (field, rest) = split_field(self.0).unwrap_or_default();
         self.0 = rest;
         Some(field)
+    }
+}
+
+// The cases of a test program, each of which is read from the fields and tried.
+pub trait Case: Drop {
+    // Is the answer of the next case the one given? None where there is no case any more.
+    fn next_same(&self, fields: &mut Fields<'_>) -> Option<bool>
+        ensures { IfSome result (λ _. length fields.new.0.now < length fields.old.0.now) };
+}
+
+// The cases of an input, one behind the other.
+#[derive(Drop)]
+pub struct Cases<'a, C> {
+    fields: Fields<'a>,
+    case: C,
+}
+
+impl<'a, C: Case> Cases<'a, C> {
+    pub fn of(case: C, input: &'a [u8]) -> Cases<'a, C>
+        ensures case { result.case ≡ case }
+        ensures fields { result.fields.0.now ≡ input.now }
+    {
+        Cases {
+            fields: Fields(input),
+            case,
+        }
+    }
+}
+
+impl<'a, C: Case> Iterator for Cases<'a, C> {
+    type Item = bool;
+
+    ghost remaining = { λ s. at_most (length s.fields.0.now) };
+
+    fn next(&mut self) -> Option<bool> {
+        self.case.next_same(&mut self.fields)
     }
 }
 

@@ -4,7 +4,6 @@ use Rattle.std.proofs.Math.Path.{refl, sym, ap}
 use Rattle.std.proofs.Common.{◌∙◌, arith, add-zero, le-leb}
 use Rattle.std.proofs.lemmas.Bool.{lt-leb}
 use Rattle.refusal.specs.declared.Refusal.{Refusal}
-use Rattle.refusal.specs.declared.Refusal.TheVariants.{Work, Bundle}
 use Rattle.refusal.specs.Numbers.{number}
 use Rattle.rules.specs.Answer.{Answer, refused, accepted, ◌>>=◌, ◌>>◌, check, or_refuse, is_some}
 use Rattle.rules.specs.Reader.{all}
@@ -17,7 +16,7 @@ use Rattle.rules.specs.Calls.{limit, parse_definitions_result}
 use Rattle.rules.proofs.Laws.Answer.{accepted-same, bind_inv, check_inv}
 use Rattle.rules.proofs.Laws.Bool.{true-some, false-some}
 use Rattle.bundle.specs.Find.{entries_of, entries-some}
-use Rattle.values.specs.Values.{slots, Room}
+use Rattle.values.specs.Slots.{slots, Room}
 use Rattle.binding.specs.declared.sheet_buffer.SheetBuffer.{SheetBuffer}
 use Rattle.binding.specs.Sheets.{sheet_in, ComesTo}
 use Rattle.arguments.specs.Given.{limit-le}
@@ -119,5 +118,5 @@ module _ {a d : Answer Records} (same : a ≡ d) (S : SheetBuffer) {A : Type 0} 
   pub defines-sheet : {x : A} → r ≡ Ok x → (c : List ℕ) (n : ℕ) → c ≡ S.records.now.bytes.now → n ≡ S.records.now.len → Defines a l c w w₂ (Ok n)
   unfolding ComesTo
   defines-sheet e c n left m =
-      let fits : n ≤ length l = omega (arith, m, S.records.now.fits, S.records.now.room, long) in
+      let fits : n ≤ length l = omega (arith, m, S.records.now.fits, long) in
       record { left-size = ap length left ∙ long; work-size = y; fits = fits; is = (sheet_in S, same ∙ (rw e at z), (λ i. take (m i) (left i)) ∙ S.sheet.written) }

@@ -12,6 +12,7 @@ use binding::sheet_buffer::SheetBuffer;
 use definitions::files::parse;
 use paths::parent;
 use refusal::Refusal;
+use scan::Text;
 
 // The sheet of a file of definitions, and its length: 1, 2, 4, 5, 6, then in reading 9, 7, 4, 5, 6.
 pub fn parse_definitions(
@@ -34,10 +35,11 @@ pub fn parse_definitions(
         bytes: left,
         len: 0,
         limit,
+        last: 0,
     };
     let mut sheet = SheetBuffer {
         records: &mut records,
     };
-    parse(&bundle, parent(path), text, &mut sheet, work, 6)?;
+    parse(&bundle, parent(path), &Text::new(text), &mut sheet, work, 6)?;
     Ok(records.len)
 }

@@ -1,33 +1,31 @@
 // The imports of a file of definitions (document 01, section 7), up to the file that one names.
 #![tactic(auto)]
 
+ghost use Rattle.std.specs.Prelude.{List, ℕ};
 ghost use Rattle.rules.specs.Bytes.{join};
 ghost use Rattle.rules.specs.Files.{view};
 ghost use Rattle.bundle.specs.Find.{entries_of};
 ghost use Rattle.paths.specs.Joined.{text};
-ghost use Rattle.definition_imports.specs.Import.{at_path, named, JoinsPath, Opens, ReadsImport};
+ghost use Rattle.definition_imports.specs.Import.{at_path, named, JoinsPath, IsPath, Opens, IsImport};
 
 use buffers::writer::Writer;
-use bundle::{Bundle, File, Found};
+use bundle::{Bundle, File, Found, open_within};
 use paths::{Path, is_path};
 use refusal::Refusal;
-use scan::Set;
+use scan::{Read, Set};
 
-// An import that was read: its file, if there is one; the text from its names on; and how many bytes of the text were read.
+// An import that was read: its file, if there is one, or the refusal that it comes to; and the text from its names on.
 #[derive(Clone, Copy)]
 pub struct Import<'a> {
-    pub file: Option<File<'a>>,
+    pub file: Result<Option<File<'a>>, Refusal>,
     pub names: &'a [u8],
-    pub used: usize,
 }
 
 // Joins a path to a folder; refused where that breaks the path rule.
 fn join_path(folder: &[u8], path: &[u8]) -> Result<Path, Refusal>
     ensures { JoinsPath (join folder.now path.now) result }
 {
-    let Some(joined) = paths::join(folder, path) else {
-        return Err(Refusal::Path);
-    };
+    let joined = bundle::joined(folder, path)?;
     if !is_path(joined.as_bytes()) {
         return Err(Refusal::Path);
     }
@@ -42,31 +40,26 @@ fn open_import<'a>(
 ) -> Result<Option<File<'a>>, Refusal>
     ensures { Opens (view (entries_of bundle.now)) levels (at_path (view (entries_of bundle.now)) levels (text path)) result }
 {
-    let content = match bundle.find(path.as_bytes()) {
-        Found::Absent => return Ok(None),
-        Found::Folder => return Err(Refusal::File),
-        Found::File(content) => content,
-    };
-    if levels == 0 {
-        return Err(Refusal::Level);
+    match bundle.find(path.as_bytes()) {
+        Found::Absent => Ok(None),
+        Found::Folder => Err(Refusal::File),
+        Found::File(content) => {
+            let text = open_within(content.of(bundle.bytes()), levels)?;
+            Ok(Some(File { path, text }))
+        }
     }
-    let text = &bundle.bytes()[content.from..content.to];
-    if !scan::is_ascii(text) {
-        return Err(Refusal::Byte);
-    }
-    Ok(Some(File { path, text }))
 }
 
-// Opens the file that an import in a folder names: 4 for a path that breaks the path rule.
+// Opens the file that an import in a folder names, by the text of its literal, if there was room for that: 4 for a path that breaks the path rule.
 fn named_file<'a>(
     bundle: &Bundle<'a>,
     folder: &[u8],
-    path: &[u8],
+    path: Result<&[u8], Refusal>,
     levels: usize,
 ) -> Result<Option<File<'a>>, Refusal>
-    ensures { Opens (view (entries_of bundle.now)) levels (named (view (entries_of bundle.now)) levels folder.now path.now) result }
+    ensures { (p : List ℕ) → IsPath p path.entry → Opens (view (entries_of bundle.now)) levels (named (view (entries_of bundle.now)) levels folder.now p) result }
 {
-    let joined = join_path(folder, path)?;
+    let joined = join_path(folder, path?)?;
     open_import(bundle, joined, levels)
 }
 
@@ -76,28 +69,28 @@ pub fn find_import<'a>(
     folder: &[u8],
     text: &'a [u8],
     levels: usize,
-) -> Result<Import<'a>, Refusal>
-    ensures { ReadsImport (view (entries_of bundle.now)) levels folder.now text.now result }
+) -> Read<Import<'a>>
+    ensures { IsImport (view (entries_of bundle.now)) levels folder.now text.now result }
 {
     let from = scan::span(text, 0, Set::Blank);
     if !scan::at(text, from, b'"') {
-        let end = scan::find(text, from, b'\n');
-        return Ok(Import {
-            file: None,
-            names: &text[end..],
-            used: end,
-        });
+        let used = scan::find(text, from, b'\n');
+        let names = &text[used..];
+        let what = Import {
+            file: Ok(None),
+            names,
+        };
+        return Read { what, used };
     }
     let mut bytes = [0u8; 256];
     let mut w = Writer::new(&mut bytes, Refusal::Path);
-    let read = strings::literal(&text[from + 1..], &mut w)?;
-    let len = w.at;
-    let names = scan::span(text, from + 1 + read, Set::ColonOrBlank);
-    let end = scan::find(text, names, b'\n');
-    let file = named_file(bundle, folder, &bytes[..len], levels)?;
-    Ok(Import {
-        file,
+    let read = strings::literal(&text[from + 1..], &mut w);
+    let path = read.what.and(Ok(w.text()));
+    let names = scan::span(text, from + 1 + read.used, Set::ColonOrBlank);
+    let what = Import {
+        file: named_file(bundle, folder, path, levels),
         names: &text[names..],
-        used: end,
-    })
+    };
+    let used = scan::find(text, names, b'\n');
+    Read { what, used }
 }

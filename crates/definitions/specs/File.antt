@@ -1,13 +1,15 @@
 -- A file of definitions, step by step, and the files that it imports.
-use Rattle.std.specs.Prelude.{◌≡◌, Bool, true, false, List, [], ◌∷◌, ℕ, zero, suc, ◌+◌, ◌-◌, ◌≤◌, ◌<◌, Some, None, eqb, length, take, drop}
+use Rattle.std.specs.Prelude.{◌≡◌, Bool, true, false, List, [], ◌∷◌, ℕ, zero, suc, ◌+◌, ◌-◌, ◌≤◌, ◌<◌, Some, None, Ok, Err, eqb, length, take, drop}
+use Rattle.refusal.specs.declared.Refusal.{Refusal}
+use Rattle.refusal.specs.Numbers.{number}
+use Rattle.scan.specs.declared.read.Read.{Read}
 use Rattle.std.proofs.Math.Path.{refl, ap}
-use Rattle.std.proofs.Common.{sym, ◌∙◌, true≢false, arith, length-take-le, take-append-drop, le-leb, eqb-true}
+use Rattle.std.proofs.Common.{sym, ◌∙◌, true≢false, arith, length-take-le, length-drop, drop-drop, drop_of_length-le, le-leb, eqb-true}
 use Rattle.std.proofs.Math.Nat.{sub-zero}
 use Rattle.rules.specs.Answer.{Answer, refused, accepted, ◌>>=◌, ◌>>◌, check}
 use Rattle.rules.specs.Reader as Reader
 use Rattle.rules.specs.Reader.{all, bytes, prefix}
 use Rattle.rules.proofs.Laws.Bool.{and_l}
-use Rattle.rules.proofs.Laws.Texts.{all_right}
 use Rattle.rules.specs.Run.{ok, fail, and_then, Did, Step, Trace, step, run, write, limited}
 use Rattle.rules.specs.Bytes.{ascii, parent}
 use Rattle.rules.specs.Files.{View}
@@ -23,16 +25,14 @@ use Rattle.paths.specs.Joined.{text}
 use Rattle.std.proofs.lemmas.List.Edits.{sets}
 use Rattle.buffers.specs.Laws.{stored-first}
 use Rattle.sheet.specs.Records.{KeepsLayout, records_of, good-records_of, good-keeps}
-use Rattle.places.specs.Place.{Between, between_start}
 use Rattle.binding.specs.declared.buffer.RecordBuffer.{RecordBuffer}
 use Rattle.binding.specs.declared.sheet_buffer.SheetBuffer.{SheetBuffer}
 use Rattle.binding.specs.Buffer.{bytes_in, SameBuffer, same-refl}
 use Rattle.binding.specs.Sheets.{sheet_in, SameSheet, sheet-then, sheet-within}
-use Rattle.values.specs.Values.{slots, Room, room-rest}
+use Rattle.values.specs.Slots.{slots, Room, room-rest}
 use Rattle.bundle.specs.declared.File.{File}
 use Rattle.definition_imports.specs.declared.Import.{Import}
 use Rattle.definition_imports.specs.Import.{comes_to, IsImport}
-use Rattle.definitions.specs.declared.steps.Stepped.{Stepped}
 use Rattle.definitions.specs.Steps.{IsStep, guard-refused}
 
 -- A step of a file in the folder g, with so many import levels left; its step `#import`.
@@ -44,28 +44,28 @@ import_in v levels g L = import_step L (imported L v (imported_sheet L v levels)
 
 -- LAWS. A step that keeps the sheet, and one that leaves another.
 module _ {d : Did Records × List ℕ} {t : List ℕ} {used : ℕ} (i : used ≤ length t) where
-  step-kept : (b : SheetBuffer) → d ≡ (bound (sheet_in b) (accepted (sheet_in b)), drop used t) → {last : ℕ} → Between (sheet_in b) last → IsStep d t b (record { used = used; last = last })
+  step-kept : (b : SheetBuffer) → d ≡ (bound (sheet_in b) (accepted (sheet_in b)), drop used t) → IsStep d t b used
   unfolding bound
-  step-kept b e M = record { inside = i; emits = ap (λ x. x.0.emit) e; rest = ap (λ x. x.1) e; state = ap (λ x. x.0.state) e; mark = M }
+  step-kept b e = record { inside = i; emits = ap (λ x. x.0.emit) e; rest = ap (λ x. x.1) e; state = ap (λ x. x.0.state) e }
 
-  step-bound : (s : Records) (c : SheetBuffer) → d ≡ (bound s (accepted (sheet_in c)), drop used t) → IsStep d t c (record { used = used; last = 0 })
+  step-bound : (s : Records) (c : SheetBuffer) → d ≡ (bound s (accepted (sheet_in c)), drop used t) → IsStep d t c used
   unfolding bound
-  step-bound s c e = record { inside = i; emits = ap (λ x. x.0.emit) e; rest = ap (λ x. x.1) e; state = ap (λ x. x.0.state) e; mark = between_start (sheet_in c) }
+  step-bound s c e = record { inside = i; emits = ap (λ x. x.0.emit) e; rest = ap (λ x. x.1) e; state = ap (λ x. x.0.state) e }
 
 -- At the start of a text where no `#import` stands, by whether a `//` or a `#let` does.
 module _ (b : SheetBuffer) {t : List ℕ} (there : 0 < length t) (P : Starts (bytes "#import") t 0 false) {c : Bool} (C : Starts (bytes "//") t 0 c) (i : Records → List ℕ → Names → Answer Records) where
-  pub other_comment : c ≡ true → {e : ℕ} → Spans (not_byte 10) t 2 e → {last : ℕ} → Between (sheet_in b) last → IsStep (definition_step b.records.now.limit i (sheet_in b) t) t b (record { used = e; last = last })
+  pub other_comment : c ≡ true → {e : ℕ} → Spans (not_byte 10) t 2 e → IsStep (definition_step b.records.now.limit i (sheet_in b) t) t b e
   unfolding definition_step Reader.◌>>=◌ Reader.◌>>◌ Reader.if_r Reader.ret
-  other_comment y X M = step-kept X.inside b (rw (mark-yes C y, (spans-but "\n" X).rest) refl) M
+  other_comment y X = step-kept X.inside b (rw (mark-yes C y, (spans-but "\n" X).rest) refl)
 
   module _ (nc : c ≡ false) {d : Bool} (D : Starts (bytes "#let") t 0 d) where
     pub other-let : d ≡ true → {u : List ℕ} → u ≡ drop 4 t → definition_step b.records.now.limit i (sheet_in b) t ≡ let_step b.records.now.limit i (sheet_in b) u
     unfolding definition_step Reader.◌>>=◌ Reader.◌>>◌ Reader.if_r
     other-let y p = rw (mark-no C nc, mark-no P refl, mark-yes D y, p) refl
 
-    pub other-skip : d ≡ false → {last : ℕ} → Between (sheet_in b) last → IsStep (definition_step b.records.now.limit i (sheet_in b) t) t b (record { used = 1; last = last })
+    pub other-skip : d ≡ false → IsStep (definition_step b.records.now.limit i (sheet_in b) t) t b 1
     unfolding definition_step Reader.◌>>=◌ Reader.◌>>◌ Reader.if_r Reader.ret
-    other-skip nd M = step-kept there b (rw (mark-no C nc, mark-no P refl, mark-no D nd, skip_at t 0 there) refl) M
+    other-skip nd = step-kept there b (rw (mark-no C nc, mark-no P refl, mark-no D nd, skip_at t 0 there) refl)
 
 -- A `#import` is no `//`.
 no_comment : (u : List ℕ) → prefix (bytes "#import") u ≡ true → prefix (bytes "//") u ≡ false
@@ -82,20 +82,21 @@ module _ (v : View) (levels : ℕ) (g t : List ℕ) (b : SheetBuffer) where
   abbrev Step-of : Did Records × List ℕ
   Step-of = import_in v levels g b.records.now.limit (sheet_in b) t
 
-  pub import-refused : {k : ℕ} → ((L : ℕ) (s : Records) → (import_in v levels g L s t).0 ≡ bound s (refused k)) → guard sheet_length b.records.now.limit Step-of.0 ≡ fail k
-  import-refused f = guard-refused b (f b.records.now.limit (sheet_in b)) (same-refl b.records.now)
-
-  module _ {m : Import} (I : IsImport v levels g t m) where
-    pub import-nothing : m.file ≡ None → {last : ℕ} → Between (sheet_in b) last → IsStep Step-of t b (record { used = m.used; last = last })
+  module _ {m : Read Import} (I : IsImport v levels g t m) where
+    pub import-refused : {k : Refusal} → m.what.file ≡ Err k → guard sheet_length b.records.now.limit Step-of.0 ≡ fail (number k)
     unfolding comes_to
-    import-nothing e M = step-kept I.inside b (I.does b.records.now.limit (sheet_in b) ∙ (rw e refl)) M
+    import-refused e = guard-refused b (ap (λ x. x.0) (I.does b.records.now.limit (sheet_in b)) ∙ (rw e refl)) (same-refl b.records.now)
+
+    pub import-nothing : m.what.file ≡ Ok None → IsStep Step-of t b m.used
+    unfolding comes_to
+    import-nothing e = step-kept I.inside b (I.does b.records.now.limit (sheet_in b) ∙ (rw e refl))
 
     -- A file, whose folder is h.
-    module _ {f : File} (e : m.file ≡ Some f) {h : List ℕ} (p : h ≡ parent (text f.path)) where
+    module _ {f : File} (e : m.what.file ≡ Ok (Some f)) {h : List ℕ} (p : h ≡ parent (text f.path)) where
       abbrev Sheet-of : Answer Records
       Sheet-of = file_sheet b.records.now.limit v (imported_sheet b.records.now.limit v (levels - 1)) h f.text.now
 
-      file-comes : (x : Answer Records) → Sheet-of ≡ x → Step-of ≡ (bound (sheet_in b) (x >>= λ o. bind_names b.records.now.limit (sheet_in b) o (names m.names.now).0), drop m.used t)
+      file-comes : (x : Answer Records) → Sheet-of ≡ x → Step-of ≡ (bound (sheet_in b) (x >>= λ o. bind_names b.records.now.limit (sheet_in b) o (names m.what.names.now).0), drop m.used t)
       unfolding comes_to
       file-comes x z = I.does b.records.now.limit (sheet_in b) ∙ (rw (e, sym p, z) refl)
 
@@ -105,14 +106,14 @@ module _ (v : View) (levels : ℕ) (g t : List ℕ) (b : SheetBuffer) where
 
       -- Its sheet is that of c, and its names are bound in the one that was saved as z.
       module _ (c : SheetBuffer) (Z : Sheet-of ≡ accepted (sheet_in c)) {z : List ℕ} (j : z ≡ bytes_in b.records.now) where
-        binding : {L : ℕ} → L ≡ b.records.now.limit → Step-of ≡ (bound (sheet_in b) (bind_names L (records_of z) (sheet_in c) (names m.names.now).0), drop m.used t)
+        binding : {L : ℕ} → L ≡ b.records.now.limit → Step-of ≡ (bound (sheet_in b) (bind_names L (records_of z) (sheet_in c) (names m.what.names.now).0), drop m.used t)
         unfolding ◌>>=◌
         binding l = file-comes _ Z ∙ (rw (l, j) refl)
 
-        pub import-over : {L : ℕ} → L ≡ b.records.now.limit → {k : ℕ} → bind_names L (records_of z) (sheet_in c) (names m.names.now).0 ≡ refused k → {r : RecordBuffer} → SameBuffer b.records.now r → guard sheet_length r.limit Step-of.0 ≡ fail k
+        pub import-over : {L : ℕ} → L ≡ b.records.now.limit → {k : ℕ} → bind_names L (records_of z) (sheet_in c) (names m.what.names.now).0 ≡ refused k → {r : RecordBuffer} → SameBuffer b.records.now r → guard sheet_length r.limit Step-of.0 ≡ fail k
         import-over l y s = guard-refused b (ap (λ x. x.0) (binding l) ∙ ap (bound (sheet_in b)) y) s
 
-        pub import-bound : {L : ℕ} → L ≡ b.records.now.limit → (d : SheetBuffer) → bind_names L (records_of z) (sheet_in c) (names m.names.now).0 ≡ accepted (sheet_in d) → IsStep Step-of t d (record { used = m.used; last = 0 })
+        pub import-bound : {L : ℕ} → L ≡ b.records.now.limit → (d : SheetBuffer) → bind_names L (records_of z) (sheet_in c) (names m.what.names.now).0 ≡ accepted (sheet_in d) → IsStep Step-of t d m.used
         import-bound l d y = step-bound I.inside (sheet_in b) d (binding l ∙ ap (λ a. (bound (sheet_in b) a, drop m.used t)) y)
 
 -- A LIMITED RUN, one step at a time.
@@ -128,78 +129,77 @@ module _ {S : Type 0} (size : S → ℕ) (L full : ℕ) where
       at (refused k) = unfold ◌>>=◌ in refl
       at (accepted p) = unfold ◌>>=◌ in refl
 
--- What is left of a plain text.
-pub plain-behind : (k : ℕ) (t : List ℕ) → all ascii t ≡ true → {u : List ℕ} → u ≡ drop k t → all ascii u ≡ true
-plain-behind k t a e = rw e (all_right ascii (take k t) (drop k t) (ap (all ascii) (take-append-drop k t) ∙ a))
-
--- A FILE, of which the text u is left. w: the buffer before.
-pub record Parsing (F : ℕ → Step Records) (t : List ℕ) (w c : SheetBuffer) (u : List ℕ) (last : ℕ) : Type 0 where
-  pub plain : all ascii u ≡ true
+-- A FILE, read up to i. w: the buffer before.
+pub record Parsing (F : ℕ → Step Records) (t : List ℕ) (w c : SheetBuffer) (i : ℕ) : Type 0 where
+  pub inside : i ≤ length t
   pub over : SameSheet w c
-  pub is : limited sheet_length w.records.now.limit 11 0 (run (F w.records.now.limit) end 0 t) ≡ limited sheet_length w.records.now.limit 11 0 (run (F w.records.now.limit) (sheet_in c) 0 u)
-  pub mark : Between (sheet_in c) last
+  pub is : limited sheet_length w.records.now.limit 11 0 (run (F w.records.now.limit) end 0 t) ≡ limited sheet_length w.records.now.limit 11 0 (run (F w.records.now.limit) (sheet_in c) 0 (drop i t))
 
-pub parsing-start : (F : ℕ → Step Records) (t : List ℕ) (w c : SheetBuffer) → all ascii t ≡ true → SameSheet w c → bytes_in c.records.now ≡ [] → Parsing F t w c t 0
+pub parsing-start : (F : ℕ → Step Records) (t : List ℕ) (w c : SheetBuffer) → SameSheet w c → bytes_in c.records.now ≡ [] → Parsing F t w c 0
 unfolding good_records encode
-parsing-start F t w c a o e = record {
-  plain = a;
+parsing-start F t w c o e = record {
+  inside = omega arith;
   over = o;
-  is = ap (λ s. limited sheet_length w.records.now.limit 11 0 (run (F w.records.now.limit) s 0 t)) (sym (ap records_of e ∙ good-records_of end refl refl (omega arith)));
-  mark = between_start (sheet_in c);
+  is = ap (λ s. limited sheet_length w.records.now.limit 11 0 (run (F w.records.now.limit) s 0 t)) (sym (ap records_of e ∙ good-records_of end refl refl));
 }
 
 -- No bytes are a sheet without records.
 pub no-bytes : KeepsLayout []
 unfolding good_records encode
-no-bytes = good-keeps end refl refl (omega arith)
+no-bytes = good-keeps end refl refl
 
-module _ {F : ℕ → Step Records} {t : List ℕ} {w c : SheetBuffer} {u : List ℕ} {last : ℕ} (Q : Parsing F t w c u last) where
+-- What is left is u.
+module _ {F : ℕ → Step Records} {t : List ℕ} {w c : SheetBuffer} {i : ℕ} (Q : Parsing F t w c i) {u : List ℕ} (p : u ≡ drop i t) where
   abbrev L : ℕ
   L = w.records.now.limit
 
-  pub parsing-on : {d : SheetBuffer} → SameSheet c d → {r : Stepped} → IsStep (F c.records.now.limit (sheet_in c) u) u d r → 0 < r.used → {x : List ℕ} → x ≡ drop r.used u → Parsing F t w d x r.last
-  parsing-on {d} y {r} S₀ o p =
-      let S : IsStep (F L (sheet_in c) u) u d r = rw Q.over.over.limit at S₀ in
+  ahead : limited sheet_length L 11 0 (run (F L) end 0 t) ≡ limited sheet_length L 11 0 (run (F L) (sheet_in c) 0 u)
+  ahead = rw p Q.is
+
+  pub parsing-inside : {d : SheetBuffer} {g : Did Records × List ℕ} {used : ℕ} → IsStep g u d used → i + used ≤ length t
+  parsing-inside S = omega (arith, S.inside, ap length p, length-drop i t, Q.inside)
+
+  pub parsing-on : {d : SheetBuffer} → SameSheet c d → {used : ℕ} → IsStep (F c.records.now.limit (sheet_in c) u) u d used → 0 < used → Parsing F t w d (i + used)
+  parsing-on {d} y {used} S₀ o =
+      let S : IsStep (F L (sheet_in c) u) u d used = rw Q.over.over.limit at S₀ in
       let within : sheet_length (F L (sheet_in c) u).0.state ≤ L = omega (arith, sheet-within d, ap sheet_length S.state, y.over.limit, Q.over.over.limit) in
-      rw p (record {
-        plain = plain-behind r.used u Q.plain refl;
+      record {
+        inside = parsing-inside S;
         over = sheet-then Q.over y;
-        is = Q.is ∙ ap (limited sheet_length L 11 0) (run_at (F L) u (sheet_in c) 0 r.used o S.inside S.rest)
+        is = ahead ∙ ap (limited sheet_length L 11 0) (run_at (F L) u (sheet_in c) 0 used o S.inside S.rest)
             ∙ limited-goes sheet_length L 11 0 (F L (sheet_in c) u).0 _ S.emits within
-            ∙ ap (λ s. limited sheet_length L 11 0 (run (F L) s 0 (drop r.used u))) S.state;
-        mark = S.mark;
-      })
+            ∙ ap (λ s. limited sheet_length L 11 0 (run (F L) s 0 (drop used u))) S.state
+            ∙ ap (λ x. limited sheet_length L 11 0 (run (F L) (sheet_in d) 0 x)) (ap (drop used) p ∙ drop-drop used i t);
+      }
 
-  parsing-no : {r : RecordBuffer} → SameBuffer c.records.now r → {k : ℕ} → guard sheet_length r.limit (F c.records.now.limit (sheet_in c) u).0 ≡ fail k → 0 < length u → limited sheet_length L 11 0 (run (F L) end 0 t) ≡ refused k
+  parsing-no : {r : RecordBuffer} → SameBuffer c.records.now r → {k : ℕ} → guard sheet_length r.limit (F c.records.now.limit (sheet_in c) u).0 ≡ fail k → i < length t → limited sheet_length L 11 0 (run (F L) end 0 t) ≡ refused k
   parsing-no y {k} S h =
-      let x = run-first (F L) (sheet_in c) u 0 h in
-      Q.is ∙ ap (limited sheet_length L 11 0) x.1 ∙ limited-stops sheet_length L 11 0 k (F L (sheet_in c) u).0 x.0 (rw (y.limit, Q.over.over.limit) at S)
+      let x = run-first (F L) (sheet_in c) u 0 (omega (arith, ap length p, length-drop i t)) in
+      ahead ∙ ap (limited sheet_length L 11 0) x.1 ∙ limited-stops sheet_length L 11 0 k (F L (sheet_in c) u).0 x.0 (rw (y.limit, Q.over.over.limit) at S)
 
-  parsing-done : length u ≡ 0 → limited sheet_length L 11 0 (run (F L) end 0 t) ≡ accepted ([], sheet_in c)
-  parsing-done h = Q.is ∙ at u h
-    where
-      at : (u : List ℕ) → length u ≡ 0 → limited sheet_length L 11 0 (run (F L) (sheet_in c) 0 u) ≡ accepted ([], sheet_in c)
-      at [] z = unfold run limited in refl
-      at (x ∷ xs) z = absurd (omega arith)
+module _ {F : ℕ → Step Records} {t : List ℕ} {w c : SheetBuffer} {i : ℕ} (Q : Parsing F t w c i) where
+  parsing-done : length t ≤ i → limited sheet_length w.records.now.limit 11 0 (run (F w.records.now.limit) end 0 t) ≡ accepted ([], sheet_in c)
+  unfolding run limited
+  parsing-done h = Q.is ∙ ap (λ x. limited sheet_length w.records.now.limit 11 0 (run (F w.records.now.limit) (sheet_in c) 0 x)) (drop_of_length-le t {i = i} h)
 
 -- What a file came to.
-module _ (v : View) (levels : ℕ) (g : List ℕ) {t : List ℕ} (a : all ascii t ≡ true) {w c : SheetBuffer} {u : List ℕ} {last : ℕ} (Q : Parsing (file_step v levels g) t w c u last) where
-  pub parsed-no : {r : RecordBuffer} → SameBuffer c.records.now r → {k : ℕ} → guard sheet_length r.limit (file_step v levels g c.records.now.limit (sheet_in c) u).0 ≡ fail k → 0 < length u → file_sheet w.records.now.limit v (imported_sheet w.records.now.limit v levels) g t ≡ refused k
+module _ (v : View) (levels : ℕ) (g : List ℕ) {t : List ℕ} (a : all ascii t ≡ true) {w c : SheetBuffer} {i : ℕ} (Q : Parsing (file_step v levels g) t w c i) where
+  pub parsed-no : {u : List ℕ} → u ≡ drop i t → {r : RecordBuffer} → SameBuffer c.records.now r → {k : ℕ} → guard sheet_length r.limit (file_step v levels g c.records.now.limit (sheet_in c) u).0 ≡ fail k → i < length t → file_sheet w.records.now.limit v (imported_sheet w.records.now.limit v levels) g t ≡ refused k
   unfolding file_sheet check ◌>>◌ ◌>>=◌
-  parsed-no y S h = rw (a, parsing-no Q y S h) refl
+  parsed-no p y S h = rw (a, parsing-no Q p y S h) refl
 
-  pub parsed : length u ≡ 0 → file_sheet w.records.now.limit v (imported_sheet w.records.now.limit v levels) g t ≡ accepted (sheet_in c)
+  pub parsed : length t ≤ i → file_sheet w.records.now.limit v (imported_sheet w.records.now.limit v levels) g t ≡ accepted (sheet_in c)
   unfolding file_sheet check ◌>>◌ ◌>>=◌
   parsed h = rw (a, parsing-done Q h) refl
 
 -- The sheet of the buffer b, v, is saved at the start of w, which is w₂ then.
 module _ (b : SheetBuffer) {v : List ℕ} (e : v ≡ bytes_in b.records.now) where
   saved-long : length v ≡ b.records.now.len
-  saved-long = ap length e ∙ length-take-le b.records.now.len b.records.now.bytes.now (omega (arith, b.records.now.fits, b.records.now.room))
+  saved-long = ap length e ∙ length-take-le b.records.now.len b.records.now.bytes.now b.records.now.fits
 
   module _ (w : List ℕ) {w₂ : List ℕ} (s : w₂ ≡ sets w 0 v) (h : b.records.now.limit ≤ length w) where
     pub saved-bytes : take b.records.now.len w₂ ≡ bytes_in b.records.now
-    saved-bytes = ap (λ n. take n w₂) (sym saved-long) ∙ ap (take (length v)) s ∙ stored-first w v (omega (arith, saved-long, b.records.now.fits)) ∙ e
+    saved-bytes = ap (λ n. take n w₂) (sym saved-long) ∙ ap (take (length v)) s ∙ stored-first w v (omega (arith, saved-long, b.within)) ∙ e
 
     pub saved-sheet : KeepsLayout (take b.records.now.len w₂)
     saved-sheet = rw saved-bytes b.sheet

@@ -1,7 +1,7 @@
 -- The steps of a file of definitions.
-use Rattle.std.specs.Prelude.{◌≡◌, List, ◌++◌, true, ℕ, ◌+◌, ◌≤◌, Result, Ok, Err, length, take, drop}
+use Rattle.std.specs.Prelude.{◌≡◌, List, ◌++◌, true, ℕ, ◌+◌, ◌≤◌, Result, Ok, Err, length, drop}
 use Rattle.std.proofs.Math.Path.{refl, ap}
-use Rattle.std.proofs.Common.{sym, ◌∙◌, arith, length-drop, length-take-le, drop-drop, le-leb}
+use Rattle.std.proofs.Common.{sym, ◌∙◌, arith, length-drop, drop-drop, le-leb}
 use Rattle.std.proofs.lemmas.Bool.{lt-leb}
 use Rattle.rules.specs.Answer.{Answer, refused, accepted}
 use Rattle.rules.specs.Reader.{ret, if_r, ◌>>=◌, ◌>>◌, bytes, either, all, mark, prefix}
@@ -17,48 +17,36 @@ use Rattle.buffers.specs.Emits.{guard, guard-yes, guard-no}
 use Rattle.refusal.specs.declared.Refusal.{Refusal}
 use Rattle.refusal.specs.Numbers.{number}
 use Rattle.sheet.specs.Records.{KeepsLayout, records_of, records-good, good-keeps, good-records_of}
-use Rattle.places.specs.Place.{Between}
-use Rattle.places.specs.Mark.{Marked, HasMark, good-ascending}
 use Rattle.binding.specs.declared.buffer.RecordBuffer.{RecordBuffer}
 use Rattle.binding.specs.declared.sheet_buffer.SheetBuffer.{SheetBuffer}
 use Rattle.binding.specs.Write.{IsSource}
-use Rattle.binding.specs.Buffer.{bytes_in, SameBuffer, Leaves, BindsAt}
+use Rattle.binding.specs.Buffer.{bytes_in, held, SameBuffer, Leaves, Binds}
 use Rattle.binding.specs.Sheets.{sheet_in, sheet-within}
-use Rattle.values.specs.declared.ValueRead.{ValueRead}
+use Rattle.scan.specs.declared.read.Read.{Read}
+use Rattle.values.specs.declared.ValueBytes.{ValueBytes}
 use Rattle.values.specs.Values.{IsRead}
-use Rattle.definitions.specs.declared.steps.Stepped.{Stepped}
 
--- The step d binds, and c holds the sheet that it leaves; t: the text that it reads. The next step may search from r.last.
-pub record IsStep (d : Did Records × List ℕ) (t : List ℕ) (c : SheetBuffer) (r : Stepped) : Type 0 where
-  pub inside : r.used ≤ length t
+-- The step d binds, and c holds the sheet that it leaves; t: the text that it reads, so many bytes of it.
+pub record IsStep (d : Did Records × List ℕ) (t : List ℕ) (c : SheetBuffer) (used : ℕ) : Type 0 where
+  pub inside : used ≤ length t
   pub emits : d.0.emit ≡ ok
-  pub rest : d.1 ≡ drop r.used t
+  pub rest : d.1 ≡ drop used t
   pub state : d.0.state ≡ sheet_in c
-  pub mark : Between (sheet_in c) r.last
 
 -- The step is done, or refused.
-abbrev pub Steps : Did Records × List ℕ → List ℕ → SheetBuffer → Result Stepped Refusal → Type 0
+abbrev pub Steps : Did Records × List ℕ → List ℕ → SheetBuffer → Result ℕ Refusal → Type 0
 Steps d t c (Ok r) = IsStep d t c r
 Steps d t c (Err k) = guard sheet_length c.records.now.limit d.0 ≡ fail (number k)
 
--- LAWS. At a place between its records a name may be searched for.
-module _ (b : SheetBuffer) {i : ℕ} (m : Between (sheet_in b) i) where
-  pub marked-in : Marked (bytes_in b.records.now) (sheet_in b) i
-  marked-in = record { bytes = b.sheet.written; between = m; order = λ _. good-ascending (sheet_in b) word 6 (records-good (bytes_in b.records.now)) }
-
-  pub has-mark-in : HasMark (bytes_in b.records.now) i
-  has-mark-in = record { r = sheet_in b; marked = marked-in }
-
--- A step behind a mark of k bytes.
+-- LAWS. A step behind a mark of k bytes.
 module _ {t u : List ℕ} {k : ℕ} (h : k ≤ length t) (p : u ≡ drop k t) {d : Did Records × List ℕ} {g : Did Records × List ℕ} (e : g ≡ d) {c : SheetBuffer} where
-  pub step-behind : {r q : Stepped} → IsStep d u c r → q ≡ record { used = k + r.used; last = r.last } → IsStep g t c q
-  step-behind {r} S z = rw (z, e) (record {
+  pub step-behind : {used : ℕ} → IsStep d u c used → IsStep g t c (k + used)
+  step-behind {used} S = record {
     inside = omega (arith, S.inside, ap length p, length-drop k t);
-    emits = S.emits;
-    rest = S.rest ∙ ap (drop r.used) p ∙ drop-drop r.used k t;
-    state = S.state;
-    mark = S.mark;
-  })
+    emits = rw e S.emits;
+    rest = rw e (S.rest ∙ ap (drop used) p ∙ drop-drop used k t);
+    state = rw e S.state;
+  }
 
 -- A refused step leaves the sheet as it was, for the guard.
 pub guard-refused : (b : SheetBuffer) {d : Did Records} {k : ℕ} → d ≡ bound (sheet_in b) (refused k) → {r : RecordBuffer} → SameBuffer b.records.now r → guard sheet_length r.limit d ≡ fail k
@@ -99,7 +87,7 @@ module _ (b : SheetBuffer) (i : Records → List ℕ → Names → Answer Record
   let-no h w = guard-refused b (ap (λ x. x.0) let-reads ∙ ap (let_bound s name) h) w
 
   -- Its value is read.
-  module _ {w : List ℕ} {v : ValueRead} (R : IsRead limit Value-of u w v) where
+  module _ {v : Read ValueBytes} (R : IsRead limit Value-of u v) where
     let-is : let_step limit i s t ≡ (bound s (accepted (set s name R.v)), drop (e + v.used) t)
     unfolding let_bound
     let-is = let-reads ∙ λ y. (let_bound s name (R.is y), (R.rest ∙ ap (drop v.used) tail ∙ drop-drop v.used e t) y)
@@ -108,27 +96,32 @@ module _ (b : SheetBuffer) (i : Records → List ℕ → Names → Answer Record
     unfolding bound
     good-set c = ap (λ x. good_records x.0.state word 6) (sym let-is) ∙ good-let limit i s t c (records-good (bytes_in b.records.now))
 
-    module _ {last : ℕ} (p : Between s last) {r : RecordBuffer} {o : Result ℕ Refusal} (B : (x : Value) → IsSource x v.lead.bit v.lead.count (take v.len w) → BindsAt b.records.now last (underscored (part t a m)) x r o) where
-      binds : BindsAt b.records.now last name R.v r o
+    module _ {r : RecordBuffer} {o : Result (Unit {0}) Refusal} (B : (x : Value) → IsSource x v.what.lead v.what.own.now → Binds b.records.now name x r o) where
+      binds : Binds b.records.now name R.v r o
       binds = B R.v R.source
 
       leaves : Leaves b.records.now (encode (set s name R.v)) r o
-      leaves = binds.leaves s (marked-in b p)
+      leaves = binds.leaves s b.sheet.written
 
       pub let-over : SameBuffer b.records.now r
       let-over = binds.over
 
-      short : length (bytes_in r) ≤ 65535
-      short = omega (arith, length-take-le r.len r.bytes.now (omega (arith, r.fits, r.room)), r.fits, r.small)
-
-      -- What is left is a sheet.
+      -- What is left is a sheet within its limit.
       pub let-sheet : all ascii t ≡ true → KeepsLayout (bytes_in r)
       unfolding Leaves
       let-sheet c = at o leaves
         where
-          at : (o : Result ℕ Refusal) → Leaves b.records.now (encode (set s name R.v)) r o → KeepsLayout (bytes_in r)
-          at (Ok x) h = good-keeps (set s name R.v) h (good-set c) short
+          at : (o : Result (Unit {0}) Refusal) → Leaves b.records.now (encode (set s name R.v)) r o → KeepsLayout (bytes_in r)
+          at (Ok x) h = good-keeps (set s name R.v) h.0 (good-set c)
           at (Err x) h = rw h.2 b.sheet
+
+      pub let-within : r.len ≤ r.limit
+      unfolding Leaves
+      let-within = at o leaves
+        where
+          at : (o : Result (Unit {0}) Refusal) → Leaves b.records.now (encode (set s name R.v)) r o → r.len ≤ r.limit
+          at (Ok x) h = omega (arith, ap length h.0, h.1, held r, binds.over.limit)
+          at (Err x) h = omega (arith, ap length h.2, held r, held b.records.now, binds.over.limit, b.within)
 
       pub let-full : {k : Refusal} → o ≡ Err k → guard sheet_length r.limit (let_step limit i s t).0 ≡ fail (number k)
       unfolding Leaves bound sheet_length
@@ -137,15 +130,14 @@ module _ (b : SheetBuffer) (i : Records → List ℕ → Names → Answer Record
           let l : r.limit ≡ limit = binds.over.limit in
           rw h.0 (ap (λ x. guard sheet_length r.limit x.0) let-is ∙ guard-no sheet_length r.limit _ (lt-leb _ r.limit (omega (arith, h.1))))
 
-      pub let-bound : all ascii t ≡ true → {at : ℕ} → o ≡ Ok at → {c : SheetBuffer} → c.records.now ≡ r → IsStep (let_step limit i s t) t c (record { used = e + v.used; last = at })
+      pub let-bound : all ascii t ≡ true → {x : Unit {0}} → o ≡ Ok x → {c : SheetBuffer} → c.records.now ≡ r → IsStep (let_step limit i s t) t c (e + v.used)
       unfolding Leaves bound
-      let-bound d {at} y {c} z =
-          let h : bytes_in r ≡ encode (set s name R.v) = rw y at leaves in
-          let g : sheet_in c ≡ set s name R.v = ap (λ x. records_of (bytes_in x)) z ∙ good-records_of (set s name R.v) h (good-set d) short in
+      let-bound d y {c} z =
+          let h = rw y at leaves in
+          let g : sheet_in c ≡ set s name R.v = ap (λ x. records_of (bytes_in x)) z ∙ good-records_of (set s name R.v) h.0 (good-set d) in
           record {
             inside = omega (arith, R.inside, ap length tail, length-drop e t, Z.inside);
             emits = ap (λ x. x.0.emit) let-is;
             rest = ap (λ x. x.1) let-is;
             state = ap (λ x. x.0.state) let-is ∙ sym g;
-            mark = rw g (binds.between s (marked-in b p) at y);
           }

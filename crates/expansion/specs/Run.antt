@@ -18,13 +18,13 @@ use Rattle.rules.proofs.Laws.Bool.{and-three}
 use Rattle.rules.proofs.Laws.Limit.{written-unrefused}
 use Rattle.rules.proofs.Laws.Enough.{run_at, run-first}
 use Rattle.scan.specs.Sets.{part, Spans, Starts, not_byte}
-use Rattle.scan.specs.Laws.{mark_of, tail-part}
+use Rattle.scan.specs.Laws.{mark_of}
 use Rattle.scan.specs.Stretches.{spans-each, spans-stop}
 use Rattle.buffers.specs.declared.writer.Writer.{Writer}
 use Rattle.buffers.specs.Emits.{guard, guarded}
-use Rattle.buffers.specs.Wrote.{Wrote, Writing, writing-start, writing-same, writing-on, writing-no, writing-end}
+use Rattle.buffers.specs.Wrote.{Puts, Wrote, Writing, puts-wrote, writing-start, writing-same, writing-on, writing-no, writing-end}
 use Rattle.buffers.specs.Copies.{after_all, copied, Copied, copied-part, after_all-same}
-use Rattle.expansion_steps.specs.declared.output.Step.{Step}
+use Rattle.scan.specs.declared.read.Read.{Read}
 use Rattle.expansion_steps.specs.Call.{Goes}
 use Rattle.expansion_steps.specs.Step.{Steps, within-limit}
 use Rattle.binding.specs.declared.sheet_buffer.SheetBuffer.{SheetBuffer}
@@ -87,7 +87,7 @@ module _ (v : View) (t : List ℕ) (a : SheetBuffer) (w : Writer) where
   unfolding expansion
   expanding-start = record { inside = omega arith; over = sheet-refl a; writing = writing-start (Emitted Whole) w; wholes = refl; finals = refl }
 
-  module _ {b : SheetBuffer} {w₁ : Writer} {i : ℕ} {x : Bool} (E : Expanding b w₁ i x) {j : ℕ} (X : Spans (not_byte 35) t i j) {w₂ : Writer} {p : Result (Unit {0}) Refusal} (P : Wrote (put (part t i j) ok) w₁ w₂ p) where
+  module _ {b : SheetBuffer} {w₁ : Writer} {i : ℕ} {x : Bool} (E : Expanding b w₁ i x) {j : ℕ} (X : Spans (not_byte 35) t i j) {w₂ : Writer} {p : Result (Unit {0}) Refusal} (P : Puts (part t i j) w₁ w₂ p) where
     -- The text before the `#` is one piece.
     piece : Copied (λ s x. s) (expansion_step v) sheet_length a.records.now.limit (sheet_in b) t i j
     piece = plain v b E.over.over.limit t i j X
@@ -100,11 +100,11 @@ module _ (v : View) (t : List ℕ) (a : SheetBuffer) (w : Writer) where
     before-hash = writing-same (λ full r. piece.writes full r ∙ behind _ (λ z. write full r (put (part t i j) (Emitted z)))) E.writing
 
     pub expanding-full : {k : Refusal} → p ≡ Err k → {r : Result Bool Refusal} → r ≡ Err k → Expands v t w w₂ a b r
-    expanding-full y z = record { over = E.over; wrote = writing-no (put (part t i j) ok) (Emitted (Left (sheet_in b) j)) before-hash y P z; goes = rw z tt }
+    expanding-full y z = record { over = E.over; wrote = writing-no (put (part t i j) ok) (Emitted (Left (sheet_in b) j)) before-hash y (puts-wrote P) z; goes = rw z tt }
 
     module _ {u : Unit {0}} (z : p ≡ Ok u) where
       at-hash : Writing (Emitted Whole) w w₂ (Emitted (Left (sheet_in b) j))
-      at-hash = writing-on (put (part t i j) ok) (Emitted (Left (sheet_in b) j)) before-hash z P
+      at-hash = writing-on (put (part t i j) ok) (Emitted (Left (sheet_in b) j)) before-hash z (puts-wrote P)
 
       whole-hash : all_whole Whole ≡ (x && all_whole (Left (sheet_in b) j))
       whole-hash = E.wholes ∙ ap (λ y. x && y) (piece.wholes ∙ behind _ all_whole)
@@ -126,15 +126,15 @@ module _ (v : View) (t : List ℕ) (a : SheetBuffer) (w : Writer) where
           none : drop j t ≡ []
           none = drop_of_length-le t {i = j} e
 
-      -- The `#` at j, and the step there.
-      module _ (y : j < length t) where
-        pub hash : Starts (bytes "#") (part t j (length t)) 0 true
+      -- The `#` at j, and the step there, on what is left.
+      module _ (y : j < length t) {left : List ℕ} (tail : left ≡ drop j t) where
+        pub hash : Starts (bytes "#") left 0 true
         unfolding prefix
-        hash = rw (tail-part t j) (record { says = rw (drop-cons t j 0 y, eq-eqb 35 (get_or t j 0) (sym (is_byte (get_or t j 0) 35 (spans-stop X y)))) refl; there = λ e. omega (arith, length-drop j t) })
+        hash = rw tail (record { says = rw (drop-cons t j 0 y, eq-eqb 35 (get_or t j 0) (sym (is_byte (get_or t j 0) 35 (spans-stop X y)))) refl; there = λ e. omega (arith, length-drop j t) })
 
-        module _ {w₃ : Writer} {c : SheetBuffer} {k : Result Step Refusal} (S : Steps v (part t j (length t)) w₂ w₃ b c k) where
+        module _ {w₃ : Writer} {c : SheetBuffer} {k : Result (Read Bool) Refusal} (S : Steps v left w₂ w₃ b c k) where
           T : Steps v (drop j t) w₂ w₃ b c k
-          T = rw (tail-part t j) at S
+          T = rw tail at S
 
           abbrev did : Did Records
           did = (expansion_step v (sheet_in b) (drop j t)).0
@@ -151,8 +151,8 @@ module _ (v : View) (t : List ℕ) (a : SheetBuffer) (w : Writer) where
               let f = run-first (expansion_step v) (sheet_in b) t j y in
               record { over = over-both; wrote = writing-no (guard sheet_length a.records.now.limit did) (Emitted f.0) (writing-same (λ full r. ap (λ o. write full r (Emitted o)) f.1) at-hash) h wrote-step q; goes = rw q tt }
 
-          module _ {d : Step} (e : k ≡ Ok d) where
-            stepped : Goes 1 (expansion_step v (sheet_in b) (drop j t)) (drop j t) d.used d.whole × (sheet_in c ≡ did.state)
+          module _ {d : Read Bool} (e : k ≡ Ok d) where
+            stepped : Goes 1 (expansion_step v (sheet_in b) (drop j t)) (drop j t) d × (sheet_in c ≡ did.state)
             stepped = rw e at T.goes
 
             on : j < j + d.used
@@ -164,20 +164,20 @@ module _ (v : View) (t : List ℕ) (a : SheetBuffer) (w : Writer) where
             pub expanding-smaller : length t - (j + d.used) < length t - i
             expanding-smaller = omega (arith, on, X.on)
 
-            more : (a b o : Bool) → a ≡ d.whole → b ≡ true → (x && (a && b && o)) ≡ ((x && d.whole) && o)
-            more a true o f z = ap (λ f. x && (f && true && o)) f ∙ and-three x d.whole o
+            more : (a b o : Bool) → a ≡ d.what → b ≡ true → (x && (a && b && o)) ≡ ((x && d.what) && o)
+            more a true o f z = ap (λ f. x && (f && true && o)) f ∙ and-three x d.what o
             more a false o f z = absurd (true≢false (sym z))
 
             one-step : Left (sheet_in b) j ≡ step did (Left (sheet_in c) (j + d.used))
             one-step = run_at (expansion_step v) t (sheet_in b) j (j + d.used) on expanding-inside (stepped.0.rest ∙ drop-drop d.used j t) ∙ ap (λ s. step did (Left s (j + d.used))) (sym stepped.1)
 
-            pub expanding-on : Expanding c w₃ (j + d.used) (x && d.whole)
+            pub expanding-on : Expanding c w₃ (j + d.used) (x && d.what)
             unfolding guarded all_whole final
             expanding-on = record {
               inside = expanding-inside;
               over = over-both;
               writing = writing-on (guard sheet_length a.records.now.limit did) (Emitted (Left (sheet_in c) (j + d.used))) (writing-same (λ full r. ap (λ f. write full r (Emitted f)) one-step) at-hash) e wrote-step;
               wholes = whole-hash ∙ ap (λ f. x && all_whole f) one-step
-                  ∙ more did.whole (unrefused did.emit) (all_whole (Left (sheet_in c) (j + d.used))) stepped.0.whole (written-unrefused (number w₂.full) did.emit (length w₂.out.now - w₂.at) (rw (within-limit did c over-both.over.limit stepped.1) at ((rw e at wrote-step.emits).goes refl).says));
+                  ∙ more did.whole (unrefused did.emit) (all_whole (Left (sheet_in c) (j + d.used))) stepped.0.whole (written-unrefused (number w₂.full) did.emit (w₂.room - w₂.at) (rw (within-limit did c over-both.over.limit stepped.1) at ((rw e at wrote-step.emits).goes refl).says));
               finals = final-hash ∙ ap final one-step;
             }

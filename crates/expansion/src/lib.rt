@@ -1,9 +1,6 @@
 // The run of the expansion (document 01, section 5): plain text, and the step at each `#`.
 #![tactic(auto)]
 
-ghost use Rattle.std.specs.Prelude.{◌≡◌, true};
-ghost use Rattle.rules.specs.Reader.{all};
-ghost use Rattle.rules.specs.Bytes.{ascii};
 ghost use Rattle.rules.specs.Files.{view};
 ghost use Rattle.bundle.specs.Find.{entries_of};
 ghost use Rattle.expansion.specs.Run.{Expands};
@@ -13,27 +10,28 @@ use buffers::writer::Writer;
 use bundle::Bundle;
 use expansion_steps::step::step;
 use refusal::Refusal;
+use scan::Text;
 
 // Expands a text, for the sheet in `left`; is each step whole (section 6)?
 pub fn expand(
     bundle: &Bundle<'_>,
-    text: &[u8],
+    text: &Text<'_>,
     w: &mut Writer<'_>,
     left: &mut SheetBuffer<'_, '_>,
 ) -> Result<bool, Refusal>
-    requires { all ascii text.now ≡ true }
     ensures { Expands (view (entries_of bundle.now)) text.now w.old w.new left.old left.new result }
 {
+    let bytes = text.bytes();
     let mut done: usize = 0;
     let mut whole = true;
     'steps: loop {
-        let at = scan::find(text, done, b'#');
-        w.put(&text[done..at])?;
-        if text.len() <= at {
+        let at = scan::find(bytes, done, b'#');
+        w.put(&bytes[done..at])?;
+        if bytes.len() <= at {
             return Ok(whole);
         }
-        let s = step(bundle, &text[at..], w, left)?;
-        done = at + s.used;
-        whole = whole & s.whole;
+        let read = step(bundle, &text.behind(at), w, left)?;
+        done = at + read.used;
+        whole = whole & read.what;
     }
 }

@@ -9,31 +9,37 @@ ghost use Rattle.bundle.specs.Find.{entries_of};
 ghost use Rattle.sheet.specs.Records.{records_of};
 ghost use Rattle.expansion_steps.specs.Call.{Ends, Does};
 
-use crate::output::{Step, show};
+use crate::output::show;
 use buffers::writer::Writer;
 use bundle::Bundle;
-use calls::Called;
+use calls::Output;
 use refusal::Refusal;
-use scan::Set;
+use scan::{Read, Set};
 use sheet::Sheet;
 
 // What a call comes to whose `(` stands at `end`; handed back, the mark and the blanks behind it are output, and reading goes on from the `(`.
-fn end_call(called: Called, text: &[u8], end: usize, w: &mut Writer<'_>) -> Result<Step, Refusal>
+fn end_call(
+    called: Read<Option<Output>>,
+    text: &[u8],
+    end: usize,
+    w: &mut Writer<'_>,
+) -> Result<Read<bool>, Refusal>
     requires { end + 1 + called.used ≤ length text.now }
-    ensures { Ends called.whole called.used text.now end w.old w.new result }
+    ensures { Ends called.what called.used text.now end w.old w.new result }
 {
     let used = end + 1 + called.used;
-    match called.whole {
-        Some(whole) => Ok(Step { whole, used }),
-        None => show(
-            &text[..end],
-            Step {
-                whole: used < text.len(),
-                used: end,
-            },
-            w,
-        ),
-    }
+    let Some(output) = called.what else {
+        let back = Read {
+            what: used < text.len(),
+            used: end,
+        };
+        return show(&text[..end], back, w);
+    };
+    output.put?;
+    Ok(Read {
+        what: output.whole,
+        used,
+    })
 }
 
 // `#raw`, with which the text begins.
@@ -42,7 +48,7 @@ pub fn raw_step(
     text: &[u8],
     sheet: &Sheet<'_>,
     w: &mut Writer<'_>,
-) -> Result<Step, Refusal>
+) -> Result<Read<bool>, Refusal>
     requires { Starts (bytes "#raw") text.now 0 true }
     ensures { Does 4 (call_step (bytes "#raw") (raw (view (entries_of bundle.now)) (resolve (records_of sheet.now))) (records_of sheet.now) (drop 4 text.now)) (records_of sheet.now) text.now w.old w.new result }
 {
@@ -50,8 +56,8 @@ pub fn raw_step(
     if !scan::at(text, end, b'(') {
         return show(
             &text[..end],
-            Step {
-                whole: true,
+            Read {
+                what: true,
                 used: end,
             },
             w,
@@ -62,7 +68,7 @@ pub fn raw_step(
 }
 
 // `#link`, with which the text begins.
-pub fn link_step(text: &[u8], sheet: &Sheet<'_>, w: &mut Writer<'_>) -> Result<Step, Refusal>
+pub fn link_step(text: &[u8], sheet: &Sheet<'_>, w: &mut Writer<'_>) -> Result<Read<bool>, Refusal>
     requires { Starts (bytes "#link") text.now 0 true }
     ensures { Does 5 (call_step (bytes "#link") (link (resolve (records_of sheet.now))) (records_of sheet.now) (drop 5 text.now)) (records_of sheet.now) text.now w.old w.new result }
 {
@@ -70,13 +76,13 @@ pub fn link_step(text: &[u8], sheet: &Sheet<'_>, w: &mut Writer<'_>) -> Result<S
     if !scan::at(text, end, b'(') {
         return show(
             &text[..end],
-            Step {
-                whole: true,
+            Read {
+                what: true,
                 used: end,
             },
             w,
         );
     }
-    let called = link_call::link(&text[end + 1..], sheet, w)?;
+    let called = link_call::link(&text[end + 1..], sheet, w);
     end_call(called, text, end, w)
 }

@@ -1,34 +1,43 @@
 // The step at a `#` that begins no mark.
-ghost use Rattle.rules.specs.Sheet.{resolve};
-ghost use Rattle.rules.specs.Expansion.{reference_step};
+ghost use Rattle.std.specs.Prelude.{◌++◌};
+ghost use Rattle.rules.specs.Reader.{bytes};
 ghost use Rattle.sheet.specs.Records.{records_of};
-ghost use Rattle.expansion_steps.specs.Call.{Does};
+ghost use Rattle.buffers.specs.Wrote.{Puts};
+ghost use Rattle.expansion_steps.specs.Reference.{Refers};
 
-use crate::output::{Step, show};
 use buffers::writer::Writer;
 use refusal::Refusal;
-use scan::Set;
+use scan::{Read, Set};
 use sheet::{Name, Sheet};
 
+// Puts `#` and the run behind it.
+fn put_run(run: &[u8], w: &mut Writer<'_>) -> Result<(), Refusal>
+    ensures { Puts (bytes "#" ++ run.now) w.old w.new result }
+{
+    w.put_byte(b'#')?;
+    w.put(run)
+}
+
 // `#`, behind which the text begins: copied before a byte that is no letter, and before a run and `(`, with the run; else puts the text of the run's reference.
-pub fn reference_step(text: &[u8], sheet: &Sheet<'_>, w: &mut Writer<'_>) -> Result<Step, Refusal>
-    ensures { Does 0 (reference_step (resolve (records_of sheet.now)) (records_of sheet.now) text.now) (records_of sheet.now) text.now w.old w.new result }
+pub fn reference_step(
+    text: &[u8],
+    sheet: &Sheet<'_>,
+    w: &mut Writer<'_>,
+) -> Read<Result<(), Refusal>>
+    ensures { Refers (records_of sheet.now) text.now w.old w.new result }
 {
     if !scan::sees(text, 0, Set::Letter) {
-        w.put_byte(b'#')?;
-        return Ok(Step {
-            whole: true,
+        return Read {
+            what: w.put_byte(b'#'),
             used: 0,
-        });
+        };
     }
     let end = scan::span(text, 0, Set::Run);
-    let step = Step {
-        whole: true,
-        used: end,
+    let run = &text[..end];
+    let what = if scan::at(text, end, b'(') {
+        put_run(run, w)
+    } else {
+        w.put(sheet.text(Name::Reference(run)))
     };
-    if scan::at(text, end, b'(') {
-        w.put_byte(b'#')?;
-        return show(&text[..end], step, w);
-    }
-    show(sheet.text(Name::Reference(&text[..end])), step, w)
+    Read { what, used: end }
 }

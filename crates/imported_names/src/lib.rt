@@ -12,7 +12,7 @@ ghost use Rattle.imported_names.specs.Words.{words};
 use binding::sheet_buffer::SheetBuffer;
 use refusal::Refusal;
 use scan::Set;
-use sheet::lookup::{Found, item, skip, value};
+use sheet::lookup::{Found, Walk, value};
 use sheet::{Name, Sheet};
 
 // Binds a word to a value of the sheet `other`.
@@ -33,12 +33,8 @@ fn bind_all(other: &Sheet<'_>, left: &mut SheetBuffer<'_, '_>) -> Result<(), Ref
     ensures { BindsNames star other.now left.old left.new result }
 {
     let s = other.bytes();
-    let mut i: usize = 0;
-    while i < s.len() {
-        let o = item(s, i);
-        let end = skip(s, o.next, o.count);
+    for (_, o) in Walk::all(s) {
         bind_one(o.name, s, value(s, o), left)?;
-        i = end;
     }
     Ok(())
 }

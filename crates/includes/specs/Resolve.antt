@@ -14,7 +14,7 @@ use Rattle.rules.proofs.Laws.Enough.{run_at}
 use Rattle.refusal.specs.declared.Refusal.{Refusal}
 use Rattle.refusal.specs.Numbers.{number}
 use Rattle.buffers.specs.declared.writer.Writer.{Writer}
-use Rattle.buffers.specs.Wrote.{Wrote, Writing, writing-start, writing-same, writing-on, writing-no, writing-end}
+use Rattle.buffers.specs.Wrote.{Puts, Wrote, Writing, puts-wrote, writing-start, writing-same, writing-on, writing-no, writing-end}
 use Rattle.marks.specs.declared.Mark.{Mark}
 use Rattle.marks.specs.declared.read.Read.{Read}
 use Rattle.scan.specs.Sets.{part}
@@ -42,7 +42,7 @@ module _ (v : View) (f : List ℕ → List ℕ → Emit) (g t : List ℕ) where
   pub resolving-start : (w : Writer) → Resolving w w 0 true
   resolving-start w = record { inside = omega arith; going = writing-start (emitted Whole) w; wholes = refl }
 
-  module _ {w w₁ : Writer} {i : ℕ} {x : Bool} (R : Resolving w w₁ i x) {j : ℕ} {a : Option Mark} (M : NextMark t i j a) {w₂ : Writer} {p : Result (Unit {0}) Refusal} (P : Wrote (put (part t i j) ok) w₁ w₂ p) where
+  module _ {w w₁ : Writer} {i : ℕ} {x : Bool} (R : Resolving w w₁ i x) {j : ℕ} {a : Option Mark} (M : NextMark t i j a) {w₂ : Writer} {p : Result (Unit {0}) Refusal} (P : Puts (part t i j) w₁ w₂ p) where
     abbrev FromMark : Trace (List ℕ)
     FromMark = run (include_step v f g) (stretch [] (part t i j)) 0 (drop j t)
 
@@ -52,11 +52,11 @@ module _ (v : View) (f : List ℕ → List ℕ → Emit) (g t : List ℕ) where
     before-mark = writing-same (λ full n. (plain v f g [] t i j M.before).writes full n) R.going
 
     pub resolving-full : {k : Refusal} → p ≡ Err k → {r : Result Bool Refusal} → r ≡ Err k → Resolves Whole w w₂ r
-    resolving-full h e = record { wrote = writing-no (put (part t i j) ok) (emitted FromMark) before-mark h P e; wholes = rw e tt }
+    resolving-full h e = record { wrote = writing-no (put (part t i j) ok) (emitted FromMark) before-mark h (puts-wrote P) e; wholes = rw e tt }
 
     module _ {u : Unit {0}} (z : p ≡ Ok u) where
       at_mark : Writing (emitted Whole) w w₂ (emitted FromMark)
-      at_mark = writing-on (put (part t i j) ok) (emitted FromMark) before-mark z P
+      at_mark = writing-on (put (part t i j) ok) (emitted FromMark) before-mark z (puts-wrote P)
 
       whole-mark : all_whole Whole ≡ (x && all_whole FromMark)
       whole-mark = R.wholes ∙ ap (λ y. x && y) (plain v f g [] t i j M.before).wholes
@@ -91,7 +91,7 @@ module _ (v : View) (f : List ℕ → List ℕ → Emit) (g t : List ℕ) where
         resolving-on h = record {
           inside = S.inside;
           going = writing-on (emit_of v f g m.what) (emitted (Left m.next)) next-mark h E;
-          wholes = whole-mark ∙ ap (λ z. x && all_whole z) one-step ∙ more (unrefused (emit_of v f g m.what)) (written-unrefused (number w₂.full) (emit_of v f g m.what) (length w₂.out.now - w₂.at) ((rw h at E.emits).goes refl).says);
+          wholes = whole-mark ∙ ap (λ z. x && all_whole z) one-step ∙ more (unrefused (emit_of v f g m.what)) (written-unrefused (number w₂.full) (emit_of v f g m.what) (w₂.room - w₂.at) ((rw h at E.emits).goes refl).says);
         }
           where
             more : (a : Bool) → a ≡ true → (x && (m.whole && a && all_whole (Left m.next))) ≡ (x && m.whole && all_whole (Left m.next))

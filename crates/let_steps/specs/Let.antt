@@ -3,11 +3,12 @@ use Rattle.std.specs.Borrow.{Bor}
 use Rattle.std.specs.Prelude.{◌≡◌, refl, List, true, ℕ, ◌≤◌, ◌<◌, length, drop, Result, Ok, Err, MatchResult}
 use Rattle.std.specs.Prelude.{Option as RustOption, Some, None}
 use Rattle.std.proofs.Math.Path.{subst}
-use Rattle.std.proofs.Common.{sym, ap, ◌∙◌}
+use Rattle.std.proofs.Common.{sym, ap, ◌∙◌, arith}
 use Rattle.std.proofs.Math.Option.{none, some}
 use Rattle.rules.specs.Reader.{ret, ◌>>=◌, ◌>>◌, but, either, all}
 use Rattle.rules.specs.Bytes.{ascii, line_blank, word, name_byte, underscored, trim}
-use Rattle.rules.specs.Sheet.{Value, text, Records, sheet_length, good_value, Lookup, resolve, set}
+use Rattle.rules.specs.Sheet.{Value, text, Records, encode, sheet_length, good_records, Lookup, resolve, set}
+use Rattle.rules.proofs.Laws.Sheet.{set-good}
 use Rattle.rules.specs.Expansion.{binds, import_step, let_value, let_step}
 use Rattle.rules.proofs.Laws.Parts.{let-good}
 use Rattle.rules.proofs.Laws.Texts.{trim-all, underscored-words}
@@ -15,14 +16,13 @@ use Rattle.scan.specs.Sets.{part, Spans, Skips}
 use Rattle.scan.specs.Stretches.{span-took, all-part}
 use Rattle.refusal.specs.declared.Refusal.{Refusal}
 use Rattle.refusal.specs.declared.Refusal.TheVariants.{Limit}
-use Rattle.sheet.specs.Records.{KeepsLayout, records_of, records-good}
+use Rattle.sheet.specs.Records.{KeepsLayout, records_of, records-good, good-keeps, good-records_of}
 use Rattle.sheet.specs.Find.{Tells, Gives, gives_one}
 use Rattle.sheet.specs.declared.lookup.Found.{Found}
 use Rattle.binding.specs.declared.buffer.RecordBuffer.{RecordBuffer}
-use Rattle.binding.specs.declared.sheet_buffer.SheetBuffer.{SheetBuffer}
 use Rattle.binding.specs.Write.{IsThere}
-use Rattle.binding.specs.Buffer.{bytes_in, Binds}
-use Rattle.binding.specs.Sheets.{sheet_in, SameSheet, still-sheet, sheet-yes, sheet-no}
+use Rattle.binding.specs.Buffer.{bytes_in, SameBuffer, held, Leaves, Binds}
+use Rattle.scan.specs.declared.read.Read.{Read}
 use Rattle.let_steps.specs.declared.Line.{Line}
 
 -- `#import`, read from behind its mark, leaves every sheet as it is; r bytes are read.
@@ -31,23 +31,24 @@ pub record Imports (t : List ℕ) (r : ℕ) : Type 0 where
   pub does : (s : Records) → import_step s t ≡ (binds s, drop r t)
 
 -- `#let`, read from behind its mark, binds the name of the line r: to its text, or to what that is looked up as.
-pub record IsLine (t : List ℕ) (r : Line) : Type 0 where
+pub record IsLine (t : List ℕ) (r : Read Line) : Type 0 where
   pub inside : r.used ≤ length t
-  pub named : all name_byte r.name.now ≡ true
-  pub plain : all ascii t ≡ true → all ascii r.content.now ≡ true
-  pub does : (look : Lookup) (s : Records) → let_step look s t ≡ (binds (set s (underscored r.name.now) (let_value r.content.now (look r.content.now))), drop r.used t)
+  pub named : all name_byte r.what.name.now ≡ true
+  pub plain : all ascii t ≡ true → all ascii r.what.content.now ≡ true
+  pub does : (look : Lookup) (s : Records) → let_step look s t ≡ (binds (set s (underscored r.what.name.now) (let_value r.what.content.now (look r.what.content.now))), drop r.used t)
 
 -- The name of the line r is bound in b, which leaves c.
 abbrev pub BindsLine : {A : Type 0} → Line → RecordBuffer → RecordBuffer → Result A Refusal → Type 0
 BindsLine r b c o = Binds b (underscored r.name.now) (let_value r.content.now (resolve (records_of (bytes_in b)) r.content.now)) c o
 
--- `#let`, read from behind its mark, leaves the records `to` and the text `rest`: c holds the records; or they are too long, and that is told.
-pub record Lets (t : List ℕ) (b c : SheetBuffer) (r : Result ℕ Refusal) : Type 0 where
-  pub over : SameSheet b c
+-- `#let`, read from behind its mark, leaves the records `to`: c holds them; or they are too long, which is told, and c holds those of b.
+pub record Lets (t : List ℕ) (b c : RecordBuffer) (r : Read (Result (Unit {0}) Refusal)) : Type 0 where
+  pub over : SameBuffer b c
+  pub inside : r.used ≤ length t
   pub to : Records
-  pub rest : List ℕ
-  pub does : let_step (resolve (sheet_in b)) (sheet_in b) t ≡ (binds to, rest)
-  pub came : MatchResult r (λ k. (k ≤ length t) × (rest ≡ drop k t) × (sheet_in c ≡ to)) (λ e. (e ≡ Limit) × (b.records.now.limit < sheet_length to))
+  pub does : let_step (resolve (records_of (bytes_in b))) (records_of (bytes_in b)) t ≡ (binds to, drop r.used t)
+  pub sheet : KeepsLayout (bytes_in c)
+  pub came : MatchResult r.what (λ _. (records_of (bytes_in c) ≡ to) × (sheet_length to ≤ b.limit)) (λ e. (e ≡ Limit) × (b.limit < sheet_length to) × (bytes_in c ≡ bytes_in b))
 
 -- LAWS. `#import`.
 pub imports : {t : List ℕ} {j r : ℕ} → Spans (but "\n") t 0 j → Skips t j r → Imports t r
@@ -56,7 +57,7 @@ imports x k = record { inside = k.inside; does = λ s. rw (x.rest, k.rest) refl 
 
 -- The line of a `#let`: its line blanks end at a, its name at b, the `=` and the line blanks around it at d, and the line at e.
 pub line-is : {t : List ℕ} {a b d e r : ℕ} {name content : Bor (List ℕ)} → Spans line_blank t 0 a → Spans name_byte t a b → Spans (either "=" line_blank) t b d → Spans (but "\n") t d e → name.now ≡ part t a b → content.now ≡ trim (part t d e) → Skips t e r →
-    IsLine t (record { name = name; content = content; used = r })
+    IsLine t (record { what = record { name = name; content = content }; used = r })
 unfolding let_step ret ◌>>=◌ ◌>>◌
 line-is {t} {a} {b} {d} {e} x y z w n m k = record {
   inside = k.inside;
@@ -86,19 +87,36 @@ module _ (b : RecordBuffer) (v : List ℕ) {s : List ℕ} (z : s ≡ bytes_in b)
     line-found w = rw found.1 (w found.0 found.2)
 
 -- THE STEP. The line l is bound to a good value.
-module _ {t : List ℕ} {l : Line} (i : IsLine t l) (a : all ascii t ≡ true) (b : SheetBuffer) where
-  named : all word (underscored l.name.now) ≡ true
-  named = underscored-words _ i.named
+module _ {t : List ℕ} {l : Read Line} (i : IsLine t l) (a : all ascii t ≡ true) (b : RecordBuffer) (k : KeepsLayout (bytes_in b)) {c : RecordBuffer} {q : Result (Unit {0}) Refusal} (x : BindsLine l.what b c q) where
+  abbrev s : Records
+  s = records_of (bytes_in b)
 
-  value-good : good_value (let_value l.content.now (resolve (sheet_in b) l.content.now)) 6 ≡ true
-  value-good = let-good (sheet_in b) l.content.now (resolve (sheet_in b) l.content.now) refl (records-good (bytes_in b.records.now)) (i.plain a)
+  abbrev bound : Records
+  bound = set s (underscored l.what.name.now) (let_value l.what.content.now (resolve s l.what.content.now))
 
-  pub let-sheet : {w : RecordBuffer} {q : Result (Unit {0}) Refusal} → BindsLine l b.records.now w q → KeepsLayout (bytes_in w)
-  let-sheet x = still-sheet b x named value-good
+  bound-good : good_records bound word 6 ≡ true
+  bound-good = set-good s word 6 _ _ (records-good (bytes_in b)) (underscored-words _ i.named) (let-good s l.what.content.now (resolve s l.what.content.now) refl (records-good (bytes_in b)) (i.plain a))
 
-  module _ (c : SheetBuffer) (m : c.records.ghost_name ≡ b.records.ghost_name) {q : Result (Unit {0}) Refusal} (x : BindsLine l b.records.now c.records.now q) where
-    pub let-over : {k : Refusal} → q ≡ Err k → Lets t b c (Err k)
-    let-over e = record { over = record { same = m; over = x.over }; to = _; rest = _; does = i.does (resolve (sheet_in b)) (sheet_in b); came = sheet-no b x named value-good e }
+  still : (o : Result (Unit {0}) Refusal) → Leaves b (encode bound) c o → KeepsLayout (bytes_in c)
+  unfolding Leaves
+  still (Ok u) h = good-keeps bound h.0 bound-good
+  still (Err e) h = rw h.2 k
 
-    pub let-bound : {u : Unit {0}} → q ≡ Ok u → Lets t b c (Ok l.used)
-    let-bound e = record { over = record { same = m; over = x.over }; to = _; rest = _; does = i.does (resolve (sheet_in b)) (sheet_in b); came = (i.inside, refl, (sheet-yes b x named value-good e).0) }
+  came : (o : Result (Unit {0}) Refusal) → Leaves b (encode bound) c o → MatchResult o (λ _. (records_of (bytes_in c) ≡ bound) × (sheet_length bound ≤ b.limit)) (λ e. (e ≡ Limit) × (b.limit < sheet_length bound) × (bytes_in c ≡ bytes_in b))
+  unfolding Leaves sheet_length
+  came (Ok u) h = (good-records_of bound h.0 bound-good, h.1)
+  came (Err e) h = h
+
+  pub lets : Lets t b c (record { what = q; used = l.used })
+  lets =
+      let h = x.leaves s k.written in
+      record { over = x.over; inside = i.inside; to = bound; does = i.does (resolve s) s; sheet = still q h; came = came q h }
+
+-- What is left is within its limit, as it was before.
+pub lets-within : {t : List ℕ} {b c : RecordBuffer} {r : Read (Result (Unit {0}) Refusal)} → Lets t b c r → b.len ≤ b.limit → c.len ≤ c.limit
+unfolding sheet_length
+lets-within {b = b} {c} {r} L h = at r.what L.came
+  where
+    at : (o : Result (Unit {0}) Refusal) → MatchResult o (λ _. (records_of (bytes_in c) ≡ L.to) × (sheet_length L.to ≤ b.limit)) (λ e. (e ≡ Limit) × (b.limit < sheet_length L.to) × (bytes_in c ≡ bytes_in b)) → c.len ≤ c.limit
+    at (Ok u) m = omega (arith, held c, ap length (L.sheet.written ∙ ap encode m.0), m.1, L.over.limit)
+    at (Err e) m = omega (arith, held c, held b, ap length m.2, h, L.over.limit)

@@ -1,18 +1,14 @@
 // The steps `#import` and `#let` of the expansion (document 01, section 5): each drops its line, and writes nothing. Each reads from behind its mark.
 #![tactic(auto)]
 
-ghost use Rattle.std.specs.Prelude.{◌≡◌, true};
-ghost use Rattle.rules.specs.Reader.{all};
-ghost use Rattle.rules.specs.Bytes.{ascii};
 ghost use Rattle.sheet.specs.Records.{KeepsLayout};
 ghost use Rattle.binding.specs.Buffer.{bytes_in};
 ghost use Rattle.let_steps.specs.Let.{Imports, IsLine, BindsLine, Lets};
 
 use binding::buffer::RecordBuffer;
-use binding::sheet_buffer::SheetBuffer;
 use paths::trim;
 use refusal::Refusal;
-use scan::Set;
+use scan::{Read, Set, Text};
 use sheet::{Name, Sheet};
 
 // `#import`: drops the line. How many bytes are read.
@@ -23,16 +19,15 @@ pub fn import_step(text: &[u8]) -> usize
     scan::skip(text, end)
 }
 
-// The line of a `#let`: its name, the trimmed text behind it, and how many bytes are read.
+// The line of a `#let`: its name, and the trimmed text behind it.
 #[derive(Clone, Copy)]
 pub struct Line<'a> {
     pub name: &'a [u8],
     pub content: &'a [u8],
-    pub used: usize,
 }
 
 // Reads the line of a `#let`.
-fn let_line<'a>(text: &'a [u8]) -> Line<'a>
+fn let_line<'a>(text: &'a [u8]) -> Read<Line<'a>>
     ensures { IsLine text.now result }
 {
     let from = scan::span(text, 0, Set::LineBlank);
@@ -41,9 +36,12 @@ fn let_line<'a>(text: &'a [u8]) -> Line<'a>
     let newline = scan::find(text, behind, b'\n');
     let rest = &text[behind..newline];
     let trimmed = trim(rest);
-    Line {
+    let line = Line {
         name: &text[from..to],
         content: trimmed,
+    };
+    Read {
+        what: line,
         used: scan::skip(text, newline),
     }
 }
@@ -60,14 +58,14 @@ fn bind_line(line: Line<'_>, left: &mut RecordBuffer<'_>) -> Result<(), Refusal>
     }
 }
 
-// `#let`: binds the name of the line in the sheet, unless that would be over its limit. How many bytes are read.
-pub fn let_step(text: &[u8], left: &mut SheetBuffer<'_, '_>) -> Result<usize, Refusal>
-    requires { all ascii text.now ≡ true }
+// `#let`: binds the name of the line among the records of a sheet, unless these would be over their limit.
+pub fn let_step(text: &Text<'_>, left: &mut RecordBuffer<'_>) -> Read<Result<(), Refusal>>
+    requires { KeepsLayout (bytes_in left.old) }
     ensures { Lets text.now left.old left.new result }
 {
-    let line = let_line(text);
-    match bind_line(line, left.records) {
-        Err(over) => Err(over),
-        Ok(()) => Ok(line.used),
+    let line = let_line(text.bytes());
+    Read {
+        what: bind_line(line.what, left),
+        used: line.used,
     }
 }

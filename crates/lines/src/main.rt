@@ -3,9 +3,8 @@
 #![tactic(auto)]
 
 ghost use Rattle.std.specs.Prelude.{◌≤◌, length};
-ghost use Rattle.std.specs.Iterator.{at_most};
 
-use cases::{Fields, holds};
+use cases::{Case, Cases, Fields, holds};
 use std::io::Result;
 
 // A buffer before a call: filled, so that a byte that the call leaves as it was is seen.
@@ -183,19 +182,15 @@ fn same(tag: u8, case: &mut Fields) -> bool
     same.unwrap_or(false)
 }
 
-// The cases of the input, each a tag and its fields.
-#[derive(Drop)]
-struct Cases<'a>(Fields<'a>);
+// The cases of the vectors, each a tag and its fields.
+#[derive(Clone, Copy)]
+struct Vectors;
 
-impl<'a> Iterator for Cases<'a> {
-    type Item = bool;
-
-    ghost remaining = { λ s. at_most (length s.0.0.now) };
-
-    fn next(&mut self) -> Option<bool> {
-        let (tag, rest) = self.0.0.split_first()?;
-        self.0 = Fields(rest);
-        Some(same(*tag, &mut self.0))
+impl Case for Vectors {
+    fn next_same(&self, fields: &mut Fields<'_>) -> Option<bool> {
+        let (tag, rest) = fields.0.split_first()?;
+        *fields = Fields(rest);
+        Some(same(*tag, fields))
     }
 }
 
@@ -203,6 +198,6 @@ fn main(rt: HostRuntime) -> Result<()> {
     let mut input = [0; 196608];
     let n = input::read_full(&mut rt.stdin(), &mut input)?;
     let mut out = rt.stdout();
-    let tally = cases::replay(Cases(Fields(&input[..n])), &mut out)?;
+    let tally = cases::replay(Cases::of(Vectors, &input[..n]), &mut out)?;
     cases::report(tally, &mut out)
 }

@@ -12,6 +12,7 @@ use Rattle.rules.specs.Sheet.{Lookup}
 use Rattle.rules.specs.Strings.{expression}
 use Rattle.rules.specs.Expansion.{Call, hands_back, outputs, link_text, link_content_block, link_end, link}
 use Rattle.rules.proofs.Laws.Sheet.{same_refl, same_eq}
+use Rattle.scan.specs.declared.read.Read.{Read}
 use Rattle.scan.specs.Sets.{byte_is, not_byte, part, Spans, Skips, Sees}
 use Rattle.scan.specs.Laws.{sees-the, skip_at, not-empty, tail-part}
 use Rattle.scan.specs.Stretches.{spans-but}
@@ -24,9 +25,9 @@ unfoldable pub behind_paren : List ℕ → Reader Call
 behind_paren u t = link_content_block u (bytes ")" ++ t)
 
 -- e reads the end of r, for every address.
-pub record Closes (e : List ℕ → Reader Call) (t : List ℕ) (r : Ending) : Type 0 where
+pub record Closes (e : List ℕ → Reader Call) (t : List ℕ) (r : Read Ending) : Type 0 where
   pub inside : r.used ≤ length t
-  pub says : (u : List ℕ) → e u t ≡ (outputs r.whole (link_text u r.text.now), drop r.used t)
+  pub says : (u : List ℕ) → e u t ≡ (outputs r.what.whole (link_text u r.what.text.now), drop r.used t)
 
 -- Without a text it is the address.
 no_text : (u : List ℕ) → link_text u [] ≡ u
@@ -35,14 +36,14 @@ no_text u = refl
 
 -- THE BOX, behind line blanks up to k.
 module _ {t : List ℕ} {k : ℕ} (L : Spans line_blank t 0 k) {c : Bool} (s : Sees (byte_is 91) t k c) where
-  pub block_none : c ≡ false → {l : Bor (List ℕ)} → l.now ≡ [] → Closes behind_paren t (record { whole = true; used = k; text = l })
+  pub block_none : c ≡ false → {l : Bor (List ℕ)} → l.now ≡ [] → Closes behind_paren t (record { what = record { whole = true; text = l }; used = k })
   unfolding behind_paren link_content_block skip ◌>>=◌ ◌>>◌ if_r ret
   block_none e x = record {
     inside = L.inside;
     says = λ u. rw (L.rest, (sees-the "[" s e).says, x, no_text u) refl;
   }
 
-  pub block_text_lem : c ≡ true → {j n : ℕ} {w : Bool} → Spans (not_byte 93) t (k + 1) j → Sees (byte_is 93) t j w → Skips t j n → {l : Bor (List ℕ)} → l.now ≡ part t (k + 1) j → Closes behind_paren t (record { whole = w; used = n; text = l })
+  pub block_text_lem : c ≡ true → {j n : ℕ} {w : Bool} → Spans (not_byte 93) t (k + 1) j → Sees (byte_is 93) t j w → Skips t j n → {l : Bor (List ℕ)} → l.now ≡ part t (k + 1) j → Closes behind_paren t (record { what = record { whole = w; text = l }; used = n })
   unfolding behind_paren link_content_block skip ◌>>=◌ ◌>>◌ if_r ret
   block_text_lem e J W N x =
       let M = spans-but "]" J in
@@ -58,17 +59,17 @@ at_paren u t k h = rw (add-one, drop-cons t k 0) refl
 
 -- THE END, behind blanks up to k.
 module _ {t : List ℕ} {k : ℕ} (L : Spans blank t 0 k) {c : Bool} (s : Sees (byte_is 41) t k c) where
-  pub end_block : c ≡ true → {r : Ending} → Closes behind_paren (part t (k + 1) (length t)) r → Closes link_end t (record { whole = r.whole; used = k + 1 + r.used; text = r.text })
+  pub end_block : c ≡ true → {r : Read Ending} → Closes behind_paren (part t (k + 1) (length t)) r → Closes link_end t (record { what = r.what; used = k + 1 + r.used })
   unfolding link_end ◌>>=◌ ◌>>◌ if_r
   end_block e {r} b₀ =
       let h = s.there e in
       let b : Closes behind_paren (drop (k + 1) t) r = rw tail-part at b₀ in
       record {
         inside = omega (arith, simp length-drop at b.inside);
-        says = λ u. rw (L.rest, (sees-the ")" s e).says) (at_paren u t k h ∙ b.says u ∙ ap (λ z. (outputs r.whole (link_text u r.text.now), z)) (drop-drop r.used (k + 1) t));
+        says = λ u. rw (L.rest, (sees-the ")" s e).says) (at_paren u t k h ∙ b.says u ∙ ap (λ z. (outputs r.what.whole (link_text u r.what.text.now), z)) (drop-drop r.used (k + 1) t));
       }
 
-  pub end_paren : c ≡ false → {j n : ℕ} {w : Bool} → Spans (not_byte 41) t k j → Sees (byte_is 41) t j w → Skips t j n → {l : Bor (List ℕ)} → l.now ≡ [] → Closes link_end t (record { whole = w; used = n; text = l })
+  pub end_paren : c ≡ false → {j n : ℕ} {w : Bool} → Spans (not_byte 41) t k j → Sees (byte_is 41) t j w → Skips t j n → {l : Bor (List ℕ)} → l.now ≡ [] → Closes link_end t (record { what = record { whole = w; text = l }; used = n })
   unfolding link_end ◌>>=◌ ◌>>◌ if_r ret
   end_paren e J W N x =
       let M = spans-but ")" J in
@@ -117,14 +118,15 @@ module _ (look : Lookup) {t : List ℕ} {i : ℕ} (L : Spans blank t 0 i) {c : B
   link-back e = rw (L.rest, (sees-the "<" s e).says) refl
 
   -- The address is read, then the end.
-  module _ {k : ℕ} (w : Ends (expression look (part t i (length t))) (part t i (length t)) k) {e : Ending} (E : Closes link_end (part (part t i (length t)) k (length (part t i (length t)))) e) where
+  module _ {k : ℕ} (w : Ends (expression look (part t i (length t))) (part t i (length t)) k) {e : Read Ending} (E : Closes link_end (part (part t i (length t)) k (length (part t i (length t)))) e) where
     pub read-inside : i + k + e.used ≤ length t
     read-inside = let a = simp (length-take, length-drop) at E.inside in let b = simp (length-take, length-drop) at w.inside in omega (arith, a, b, L.inside)
 
-    pub link-read : c ≡ false → link look t ≡ (outputs e.whole (link_text (expression look (part t i (length t))).0 e.text.now), drop (i + k + e.used) t)
+    -- Read on from the call's start, it is d.
+    pub link-read : c ≡ false → {d : Read Ending} → d ≡ record { what = e.what; used = i + k + e.used } → link look t ≡ (outputs d.what.whole (link_text (expression look (part t i (length t))).0 d.what.text.now), drop d.used t)
     unfolding link ◌>>=◌ ◌>>◌ if_r
-    link-read f =
+    link-read f D =
         let v : Ends (expression look (drop i t)) (drop i t) k = rw tail-part at w in
         let d : Closes link_end (drop k (drop i t)) e = rw (tail-part, tail-part) at E in
         let z : drop e.used (drop k (drop i t)) ≡ drop (i + k + e.used) t = drop-drop e.used k (drop i t) ∙ drop-drop (k + e.used) i t ∙ ap (λ n. drop n t) (omega arith) in
-        rw tail-part (rw (L.rest, (sees-the "<" s f).says, v.rest) (d.says _ ∙ ap (λ z. (outputs e.whole (link_text (expression look (drop i t)).0 e.text.now), z)) z))
+        rw (D, tail-part) (rw (L.rest, (sees-the "<" s f).says, v.rest) (d.says _ ∙ ap (λ z. (outputs e.what.whole (link_text (expression look (drop i t)).0 e.what.text.now), z)) z))

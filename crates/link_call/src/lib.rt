@@ -2,69 +2,72 @@
 // that differs, then to put it.
 #![tactic(auto)]
 
-ghost use Rattle.std.specs.Prelude.{◌≡◌, ◌||◌};
+ghost use Rattle.std.specs.Prelude.{Ok, ◌≡◌, ◌||◌};
 ghost use Rattle.rules.specs.Reader.{empty, same};
 ghost use Rattle.rules.specs.Strings.{expression};
 ghost use Rattle.rules.specs.Sheet.{resolve};
-ghost use Rattle.rules.specs.Run.{put, ok};
 ghost use Rattle.rules.specs.Expansion.{link_text, link_end, link};
 ghost use Rattle.sheet.specs.Records.{records_of};
-ghost use Rattle.buffers.specs.Wrote.{Wrote};
+ghost use Rattle.buffers.specs.Wrote.{Puts};
 ghost use Rattle.calls.specs.Called.{Calls};
 ghost use Rattle.link_call.specs.Link.{Closes, behind_paren};
 
 use buffers::writer::Writer;
-use calls::Called;
+use calls::Output;
 use refusal::Refusal;
-use scan::Set;
+use scan::{Read, Set};
 use sheet::Sheet;
+use string_ends::Pieces;
+use strings::piece_writer::PieceWriter;
 
-// How a call ends: on its own `)` or `]`; how many bytes were read; the text of its content block, empty without one.
+// How a call ends: on its own `)` or `]`; the text of its content block, empty without one.
 #[derive(Clone, Copy)]
 pub struct Ending<'a> {
     pub whole: bool,
-    pub used: usize,
     pub text: &'a [u8],
 }
 
 // The content block, from behind a `)`.
-fn content_block_end<'a>(text: &'a [u8]) -> Ending<'a>
+fn content_block_end<'a>(text: &'a [u8]) -> Read<Ending<'a>>
     ensures { Closes behind_paren text.now result }
 {
     let i = scan::span(text, 0, Set::LineBlank);
     if !scan::at(text, i, b'[') {
-        return Ending {
-            whole: true,
+        return Read {
+            what: Ending {
+                whole: true,
+                text: &text[..0],
+            },
             used: i,
-            text: &text[..0],
         };
     }
     let j = scan::find(text, i + 1, b']');
-    Ending {
+    let end = Ending {
         whole: scan::at(text, j, b']'),
-        used: scan::skip(text, j),
         text: &text[i + 1..j],
+    };
+    Read {
+        what: end,
+        used: scan::skip(text, j),
     }
 }
 
 // The end of a call, from behind its address.
-fn call_end<'a>(text: &'a [u8]) -> Ending<'a>
+fn call_end<'a>(text: &'a [u8]) -> Read<Ending<'a>>
     ensures { Closes link_end text.now result }
 {
     let i = scan::span(text, 0, Set::Blank);
     if scan::at(text, i, b')') {
-        let end = content_block_end(&text[i + 1..]);
-        return Ending {
-            whole: end.whole,
-            used: i + 1 + end.used,
-            text: end.text,
-        };
+        return content_block_end(&text[i + 1..]).behind(i + 1);
     }
     let j = scan::find(text, i, b')');
-    Ending {
+    let end = Ending {
         whole: scan::at(text, j, b')'),
-        used: scan::skip(text, j),
         text: &text[..0],
+    };
+    Read {
+        what: end,
+        used: scan::skip(text, j),
     }
 }
 
@@ -85,36 +88,43 @@ fn put_link(
     text: &[u8],
     w: &mut Writer<'_>,
 ) -> Result<(), Refusal>
-    ensures { Wrote (put (link_text (expression (resolve (records_of sheet.now)) address.now).0 text.now) ok) w.old w.new result }
+    ensures { Puts (link_text (expression (resolve (records_of sheet.now)) address.now).0 text.now) w.old w.new result }
 {
-    if address_alone(address, sheet, text) {
-        strings::expression(address, sheet, w)?;
-        return Ok(());
+    let alone = address_alone(address, sheet, text);
+    let mut to = PieceWriter {
+        to: w,
+        outcome: Ok(()),
+    };
+    if alone {
+        strings::read_expression(address, sheet, &mut to);
+        return to.outcome;
     }
-    w.put(b"#link(\"")?;
-    strings::expression(address, sheet, w)?;
-    w.put(b"\")[")?;
-    w.put(text)?;
-    w.put(b"]")
+    to.take(b"#link(\"");
+    strings::read_expression(address, sheet, &mut to);
+    to.take(b"\")[");
+    to.take(text);
+    to.take(b"]");
+    to.outcome
 }
 
-// Reads a link call from behind its `(`, and puts its text. At `<` it is handed back.
-pub fn link(text: &[u8], sheet: &Sheet<'_>, w: &mut Writer<'_>) -> Result<Called, Refusal>
-    ensures { Calls (link (resolve (records_of sheet.now)) text.now) text.now w.old w.new result }
+// Reads a link call from behind its `(`, and puts its text. At `<` it is handed back; it is never refused.
+pub fn link(text: &[u8], sheet: &Sheet<'_>, w: &mut Writer<'_>) -> Read<Option<Output>>
+    ensures { Calls (link (resolve (records_of sheet.now)) text.now) text.now w.old w.new (Ok result) }
 {
     let i = scan::span(text, 0, Set::Blank);
     if scan::at(text, i, b'<') {
-        return Ok(Called {
-            whole: None,
+        return Read {
+            what: None,
             used: i,
-        });
+        };
     }
     let address = &text[i..];
     let read = string_ends::expression_end(address);
-    let end = call_end(&address[read..]);
-    put_link(address, sheet, end.text, w)?;
-    Ok(Called {
-        whole: Some(end.whole),
-        used: i + read + end.used,
-    })
+    let end = call_end(&address[read..]).behind(i + read);
+    let whole = end.what.whole;
+    let put = put_link(address, sheet, end.what.text, w);
+    Read {
+        what: Some(Output { whole, put }),
+        used: end.used,
+    }
 }

@@ -2,11 +2,11 @@
 use Rattle.std.specs.Prelude.{Option, Some, None, ◌≡◌, List, Bool, true, false, ℕ, leb, length, take, Ok, Err}
 use Rattle.std.proofs.Math.Option.{Option as MathOption}
 use Rattle.std.proofs.Math.Path.{refl, sym, ap}
-use Rattle.std.proofs.Common.{◌∙◌, append-nil, arith, length-take-le}
+use Rattle.std.proofs.Common.{◌∙◌, arith, length-take-le}
 use Rattle.rules.specs.Answer.{Answer, refused, accepted, ◌>>=◌, ◌>>◌, check, or_refuse, is_some}
 use Rattle.rules.specs.Reader.{all}
 use Rattle.rules.specs.Bytes.{ascii}
-use Rattle.rules.specs.Run.{put, ok, write}
+use Rattle.rules.specs.Run.{put, ok}
 use Rattle.rules.specs.Sheet.{Value, sheet_of, resolve, text_of}
 use Rattle.rules.specs.Calls.{resolve_result}
 use Rattle.rules.proofs.Laws.Answer.{not-both, accepted-same, check_inv}

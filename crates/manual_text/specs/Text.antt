@@ -15,7 +15,6 @@ use Rattle.rules.specs.Manual.{answered, sheet_from, output_from, setting, built
 use Rattle.rules.proofs.Laws.Answer.{assoc}
 use Rattle.rules.proofs.Laws.Calls.{number_form, parse_definitions_numbered, parse_definitions_holds, pass_holds, find_known}
 use Rattle.rules.proofs.Laws.Found.{content_from, content-refused, content-absent, content-there, found-content, found_inside}
-use Rattle.rules.proofs.Laws.Manual.{manual-holds}
 use Rattle.buffers.specs.Wrote.{first_bytes}
 use Rattle.refusals.specs.Text.{Leaves}
 use Rattle.rules.proofs.Laws.Parts.{result_numbered}

@@ -9,8 +9,12 @@ ghost use Rattle.manual_text.specs.Text.{main_text, Builds};
 use refusal::Refusal;
 
 // A pass over a text of the bundle, folder empty, from a sheet: the length of what is built.
-fn pass_over(bundle: &[u8], text: &[u8], sheet: &[u8], out: &mut [u8]) -> Result<usize, Refusal>
-    requires { 32768 ≡ length out.old }
+fn pass_over(
+    bundle: &[u8],
+    text: &[u8],
+    sheet: &[u8],
+    out: &mut [u8; 32768],
+) -> Result<usize, Refusal>
     ensures { Builds (output_from (pass_of (setting bundle.now) sheet.now text.now)) out.old out.new result }
 {
     let mut middle = [0; 32768];
@@ -21,8 +25,7 @@ fn pass_over(bundle: &[u8], text: &[u8], sheet: &[u8], out: &mut [u8]) -> Result
 }
 
 // `main.typ`, found, and the pass over it.
-fn pass_main(bundle: &[u8], sheet: &[u8], out: &mut [u8]) -> Result<usize, Refusal>
-    requires { 32768 ≡ length out.old }
+fn pass_main(bundle: &[u8], sheet: &[u8], out: &mut [u8; 32768]) -> Result<usize, Refusal>
     ensures { Builds (main_text bundle.now sheet.now) out.old out.new result }
 {
     let f = builder::find_file(bundle, b"main.typ");
@@ -34,8 +37,7 @@ fn pass_main(bundle: &[u8], sheet: &[u8], out: &mut [u8]) -> Result<usize, Refus
 }
 
 // The definitions, then the pass: 2 where the bundle is longer than 16,384 bytes, then the calls' refusals.
-fn build(bundle: &[u8], out: &mut [u8]) -> Result<usize, Refusal>
-    requires { 32768 ≡ length out.old }
+fn build(bundle: &[u8], out: &mut [u8; 32768]) -> Result<usize, Refusal>
     ensures { Builds (built bundle.now) out.old out.new result }
 {
     if bundle.len() > 16384 {
@@ -44,10 +46,8 @@ fn build(bundle: &[u8], out: &mut [u8]) -> Result<usize, Refusal>
     let mut sheet = [0; 1024];
     let mut work = [0; 16384];
     let d = builder::parse_definitions(bundle, b"defs.typ", &mut sheet, &mut work);
-    match Refusal::check(d.number) {
-        Ok(()) => pass_main(bundle, &sheet[..d.sheet], out),
-        Err(refusal) => Err(refusal),
-    }
+    Refusal::check(d.number)?;
+    pass_main(bundle, &sheet[..d.sheet], out)
 }
 
 // What `manual` writes for a bundle: so many bytes at the start of `out`, and zero behind them.

@@ -2,10 +2,7 @@
 // there were.
 #![tactic(auto)]
 
-ghost use Rattle.std.specs.Prelude.{length};
-ghost use Rattle.std.specs.Iterator.{at_most};
-
-use cases::{Fields, holds};
+use cases::{Case, Cases, Fields, holds};
 use std::io::Result;
 
 // Is this what is written for the bundle, and zero behind it? The buffer is filled, so that a byte that is left as it was is seen.
@@ -15,18 +12,14 @@ fn same(bundle: &[u8], text: &[u8]) -> bool {
     n == text.len() && holds(&out, text)
 }
 
-// The cases of the input, each two fields, the bundle and the text.
-#[derive(Drop)]
-struct Cases<'a>(Fields<'a>);
+// The cases of the manuals, each two fields, the bundle and the text.
+#[derive(Clone, Copy)]
+struct Manuals;
 
-impl<'a> Iterator for Cases<'a> {
-    type Item = bool;
-
-    ghost remaining = { λ s. at_most (length s.0.0.now) };
-
-    fn next(&mut self) -> Option<bool> {
-        let bundle = self.0.next()?;
-        Some(same(bundle, self.0.field()))
+impl Case for Manuals {
+    fn next_same(&self, fields: &mut Fields<'_>) -> Option<bool> {
+        let bundle = fields.next()?;
+        Some(same(bundle, fields.field()))
     }
 }
 
@@ -34,6 +27,6 @@ fn main(rt: HostRuntime) -> Result<()> {
     let mut input = [0; 196608];
     let n = input::read_full(&mut rt.stdin(), &mut input)?;
     let mut out = rt.stdout();
-    let tally = cases::replay(Cases(Fields(&input[..n])), &mut out)?;
+    let tally = cases::replay(Cases::of(Manuals, &input[..n]), &mut out)?;
     cases::report(tally, &mut out)
 }

@@ -1,6 +1,6 @@
 -- Included files.
-use Rattle.std.specs.Prelude.{◌≡◌, refl, List, [], Bool, true, false, ℕ, suc, ◌-◌, ◌<◌, length, Result, Ok, Err}
-use Rattle.std.proofs.Common.{sym, ◌∙◌}
+use Rattle.std.specs.Prelude.{◌≡◌, refl, List, [], true, false, ℕ, suc, ◌-◌, ◌<◌, length, Result, Ok, Err}
+use Rattle.std.proofs.Common.{◌∙◌, inl, inr}
 use Rattle.std.proofs.Math.Path.{ap}
 use native.Mathlib.Omega.{arith}
 use Rattle.rules.specs.Answer.{refused, accepted}
@@ -9,10 +9,10 @@ use Rattle.rules.specs.Run.{ok, put, fail, and_then, run, emitted}
 use Rattle.rules.specs.Bytes.{ascii, parent}
 use Rattle.rules.specs.Files.{View, fetch}
 use Rattle.rules.specs.Includes.{included, inside_file, include_step}
-use Rattle.paths.specs.Joined.{text}
-use Rattle.bundle.specs.Open.{long-fetch}
-use Rattle.paths.specs.declared.path.Path.{Path}
 use Rattle.std.specs.Borrow.{Bor}
+use Rattle.paths.specs.Joined.{text}
+use Rattle.bundle.specs.Open.{long-fetch, OpensWithin}
+use Rattle.paths.specs.declared.path.Path.{Path}
 use Rattle.refusal.specs.declared.Refusal.{Refusal}
 use Rattle.refusal.specs.Numbers.{number}
 use Rattle.bundle.specs.declared.File.{File}
@@ -33,8 +33,8 @@ module _ (v : View) (levels : ℕ) (p : List ℕ) where
   unfolding included
   file-refused e g = rw e refl
 
-  pub file-long : 255 < length p → (g : List ℕ) → included v (inside_file v levels) g p (fetch v p) ≡ fail 4
-  file-long h = file-refused (long-fetch v p h)
+  pub file-long : {k : Refusal} → (255 < length p) × (number k ≡ 4) → {r : Result File Refusal} → r ≡ Err k → OpensFile v levels p r
+  file-long h y = rw (y, h.1) (file-refused (long-fetch v p h.0))
 
   -- Its text t is there.
   module _ {t : List ℕ} (e : fetch v p ≡ accepted t) where
@@ -42,15 +42,13 @@ module _ (v : View) (levels : ℕ) (p : List ℕ) where
     unfolding included and_then
     stopped k h g = rw (e, h) refl
 
-    pub file_seven : levels ≡ 0 → (g : List ℕ) → included v (inside_file v levels) g p (fetch v p) ≡ fail 7
-    file_seven h = stopped 7 (ap (λ x. inside_file v x (parent p) t) h ∙ (unfold inside_file in refl))
+    -- With a level left, it is asked for bytes from 128.
+    inside_here : 0 < levels → inside_file v levels (parent p) t ≡ elim (all ascii t) [ true ↦ emitted (run (include_step v (inside_file v (levels - 1)) (parent p)) [] 0 t) | false ↦ fail 6 ]
+    inside_here h = let level : levels ≡ suc (levels - 1) = omega arith in ap (λ x. inside_file v x (parent p) t) level ∙ (unfold inside_file in refl)
 
-    module _ (y : levels ≡ 0 → ⊥) {c : Bool} (a : c ≡ all ascii t) where
-      pub file-six : c ≡ false → (g : List ℕ) → included v (inside_file v levels) g p (fetch v p) ≡ fail 6
-      file-six h = let level : levels ≡ suc (levels - 1) = omega arith in stopped 6 (ap (λ x. inside_file v x (parent p) t) level ∙ (unfold inside_file in (rw (sym a ∙ h, inside_file) refl)))
+    pub file-no : {k : Refusal} → OpensWithin t levels (Err k) → {r : Result File Refusal} → r ≡ Err k → OpensFile v levels p r
+    file-no (inl h) y = rw (y, h.1) (stopped 7 (ap (λ z. inside_file v z (parent p) t) h.0 ∙ (unfold inside_file in refl)))
+    file-no (inr h) y = rw (y, h.2) (stopped 6 (inside_here h.0 ∙ rw h.1 refl))
 
-      pub file_goes : c ≡ true → {q : Path} → text q ≡ p → {l : Bor (List ℕ)} → l.now ≡ t → 0 < levels → IsFile v levels p (record { path = q; text = l })
-      file_goes h {q} x {l} z y = record { left = y; goes = λ g o. unfold included in (rw (e, inner, o, x, z) refl) }
-        where
-          inner : inside_file v levels (parent p) t ≡ emitted (run (include_step v (inside_file v (levels - 1)) (parent p)) [] 0 t)
-          inner = let level : levels ≡ suc (levels - 1) = omega arith in ap (λ x. inside_file v x (parent p) t) level ∙ (unfold inside_file in (rw (sym a ∙ h, inside_file) refl))
+    pub file_opened : {q : Path} → text q ≡ p → {s : Bor (List ℕ)} → OpensWithin t levels (Ok s) → OpensFile v levels p (Ok (record { path = q; text = s }))
+    file_opened x h = record { left = h.0; goes = λ g o. unfold included in (rw (e, inside_here h.0, h.1, o, x, h.2) refl) }

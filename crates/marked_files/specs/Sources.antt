@@ -12,13 +12,12 @@ use Rattle.rules.specs.Run.{ends_in_newline}
 use Rattle.rules.specs.Bytes.{join}
 use Rattle.rules.specs.Files.{View, opened}
 use Rattle.rules.specs.Includes.{last_newline, fenced}
-use Rattle.rules.specs.Run.{put, ok}
 use Rattle.scan.specs.Laws.{not-empty, ends_last}
-use Rattle.bundle.specs.Open.{long-opened}
+use Rattle.bundle.specs.Open.{Answers, long-opened}
 use Rattle.refusal.specs.declared.Refusal.{Refusal}
 use Rattle.refusal.specs.Numbers.{number}
 use Rattle.buffers.specs.declared.writer.Writer.{Writer}
-use Rattle.buffers.specs.Wrote.{Wrote, wrote-fail}
+use Rattle.buffers.specs.Wrote.{Puts, Wrote, puts-wrote, wrote-fail}
 
 -- A source's block.
 abbrev pub block_text : List ℕ → List ℕ → List ℕ
@@ -58,8 +57,8 @@ close-ends (x ∷ xs) (Some b) v r k h = close_newline (x ∷ xs) (λ z. absurd 
 
 -- OPENING.
 module _ (v : View) {g q : List ℕ} (e : g ≡ q) (p : List ℕ) where
-  pub source-long : 255 < length (join g p) → opened v (join q p) ≡ refused 4
-  source-long h = long-opened v (join q p) (rw e at h)
+  pub source-long : {k : Refusal} → (255 < length (join g p)) × (number k ≡ 4) → {r : Result (Bor (List ℕ)) Refusal} → r ≡ Err k → Answers (opened v (join q p)) r
+  source-long h y = rw (y, h.1) (long-opened v (join q p) (rw e at h.0))
 
 -- A source that was opened, or not.
 module _ (l : List ℕ) {a : Answer (List ℕ)} {w w₂ : Writer} {A : Type 0} {r : Result A Refusal} where
@@ -67,6 +66,6 @@ module _ (l : List ℕ) {a : Answer (List ℕ)} {w w₂ : Writer} {A : Type 0} {
   unfolding fenced
   source-refused h e x = rw (h, e, x) (wrote-fail w _)
 
-  pub source-put : {c : List ℕ} → a ≡ accepted c → Wrote (put (block_text l c) ok) w w₂ r → Wrote (fenced l a) w w₂ r
+  pub source-put : {c : List ℕ} → a ≡ accepted c → Puts (block_text l c) w w₂ r → Wrote (fenced l a) w w₂ r
   unfolding fenced
-  source-put h s = rw h s
+  source-put h s = rw h (puts-wrote s)

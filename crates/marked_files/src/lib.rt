@@ -6,8 +6,7 @@ ghost use Rattle.rules.specs.Files.{view};
 ghost use Rattle.bundle.specs.Find.{entries_of};
 ghost use Rattle.marked_files.specs.Files.{OpensFile};
 
-use bundle::{Bundle, File};
-use paths::join;
+use bundle::{Bundle, File, joined, open_within};
 use refusal::Refusal;
 
 pub mod sources;
@@ -21,18 +20,8 @@ pub fn open_file<'a>(
 ) -> Result<File<'a>, Refusal>
     ensures { OpensFile (view (entries_of bundle.now)) levels (join folder.now path.now) result }
 {
-    let Some(path) = join(folder, path) else {
-        return Err(Refusal::Path);
-    };
-    let text = match bundle.fetch(path.as_bytes()) {
-        Ok(text) => text,
-        Err(refusal) => return Err(refusal),
-    };
-    if levels == 0 {
-        return Err(Refusal::Level);
-    }
-    if !scan::is_ascii(text) {
-        return Err(Refusal::Byte);
-    }
-    Ok(File { path, text })
+    let path = joined(folder, path)?;
+    let text = bundle.fetch(path.as_bytes())?;
+    let opened = open_within(text, levels)?;
+    Ok(File { path, text: opened })
 }

@@ -4,30 +4,26 @@ ghost use Rattle.rules.specs.Reader.{bytes};
 ghost use Rattle.rules.specs.Bytes.{join};
 ghost use Rattle.rules.specs.Files.{view, opened, project_root};
 ghost use Rattle.rules.specs.Includes.{last_newline, fenced};
-ghost use Rattle.buffers.specs.Wrote.{Wrote};
-ghost use Rattle.rules.specs.Run.{put, ok};
+ghost use Rattle.buffers.specs.Wrote.{Puts, Wrote};
 ghost use Rattle.bundle.specs.Find.{entries_of};
 ghost use Rattle.bundle.specs.Open.{Answers};
 ghost use Rattle.marked_files.specs.Sources.{block_text};
 
 use buffers::writer::Writer;
-use bundle::Bundle;
-use paths::join;
+use bundle::{Bundle, joined};
 use refusal::Refusal;
 
 // Opens a source, from the nearest folder upward that has `CITATION.cff`: 4, 5, 6.
 fn open_source<'a>(bundle: &Bundle<'a>, folder: &[u8], path: &[u8]) -> Result<&'a [u8], Refusal>
     ensures { Answers (opened (view (entries_of bundle.now)) (join (project_root (view (entries_of bundle.now)) folder.now) path.now)) result }
 {
-    match join(bundle.project_root(folder), path) {
-        None => Err(Refusal::Path),
-        Some(joined) => bundle.open_text(joined.as_bytes()),
-    }
+    let joined = joined(bundle.project_root(folder), path)?;
+    bundle.open_text(joined.as_bytes())
 }
 
 // Puts the end of a source's block: a newline if the content lacks a last one, three backticks, newline.
 fn put_end(content: &[u8], w: &mut Writer<'_>) -> Result<(), Refusal>
-    ensures { Wrote (put (last_newline content.now ++ bytes "```\n") ok) w.old w.new result }
+    ensures { Puts (last_newline content.now ++ bytes "```\n") w.old w.new result }
 {
     let lacks_newline = content.last() != Some(&b'\n');
     if lacks_newline {
@@ -38,7 +34,7 @@ fn put_end(content: &[u8], w: &mut Writer<'_>) -> Result<(), Refusal>
 
 // Puts a source's block: three backticks, language, newline, content, its end.
 fn put_block(lang: &[u8], content: &[u8], w: &mut Writer<'_>) -> Result<(), Refusal>
-    ensures { Wrote (put (block_text lang.now content.now) ok) w.old w.new result }
+    ensures { Puts (block_text lang.now content.now) w.old w.new result }
 {
     w.put(b"```")?;
     w.put(lang)?;

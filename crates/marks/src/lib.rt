@@ -3,7 +3,7 @@
 #![tactic(auto)]
 
 ghost use Rattle.std.specs.Prelude.{◌≡◌, [], ◌≤◌, length, drop, reverse, take_while};
-ghost use Rattle.scan.specs.Sets.{not_byte};
+ghost use Rattle.scan.specs.Sets.{Starts, not_byte};
 ghost use Rattle.rules.specs.Includes.{commented};
 ghost use Rattle.marks.specs.Marks.{mark_at, mark_text, NextMark, stretch};
 
@@ -20,14 +20,29 @@ pub enum Mark {
 }
 
 impl Mark {
+    // The mark's bytes.
+    fn text(self) -> &'static [u8]
+        ensures { result.now ≡ mark_text self }
+    {
+        match self {
+            Mark::Include => b"#include",
+            Mark::SourceInclude => b"#source-include",
+        }
+    }
+
     // How many bytes the mark has.
     pub fn len(self) -> usize
         ensures { result ≡ length (mark_text self) }
     {
-        match self {
-            Mark::Include => b"#include".len(),
-            Mark::SourceInclude => b"#source-include".len(),
-        }
+        self.text().len()
+    }
+
+    // Does the mark stand at a place?
+    fn stands(self, text: &[u8], at: usize) -> bool
+        requires { at ≤ length text.now }
+        ensures { Starts (mark_text self) text.now at result }
+    {
+        scan::starts_with(text, at, self.text())
     }
 }
 
@@ -36,10 +51,10 @@ fn mark_at(text: &[u8], at: usize) -> Option<Mark>
     requires { at ≤ length text.now }
     ensures { result ≡ mark_at (drop at text.now) }
 {
-    if scan::starts_with(text, at, b"#include") {
+    if Mark::Include.stands(text, at) {
         return Some(Mark::Include);
     }
-    if scan::starts_with(text, at, b"#source-include") {
+    if Mark::SourceInclude.stands(text, at) {
         return Some(Mark::SourceInclude);
     }
     None

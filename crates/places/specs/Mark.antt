@@ -1,6 +1,7 @@
 -- A place of a sheet from which a name may be searched for.
-use Rattle.std.specs.Prelude.{◌≡◌, refl, Bool, true, false, ◌&&◌, List, [], ◌++◌, ℕ, ◌+◌, ◌<◌, length, take, drop}
-use Rattle.std.proofs.Common.{sym, ap, ◌∙◌, append-nil, arith, length-append, drop_of_length-le}
+use Rattle.std.specs.Prelude.{◌≡◌, refl, Bool, true, false, ◌&&◌, List, [], ◌++◌, ℕ, zero, suc, ◌+◌, ◌-◌, ◌<◌, leb, length, take, drop}
+use Rattle.std.proofs.Common.{sym, ap, ◌∙◌, append-nil, arith, le-leb, length-append, drop_of_length-le}
+use Rattle.std.proofs.lemmas.Bool.{false≢true, leb-true}
 use Rattle.std.proofs.Math.Seq.{take-append_seam, drop-append_seam}
 use Rattle.rules.specs.Bytes.{less}
 use Rattle.rules.specs.Sheet.{Value, Records, end, rec, encode, good_records, set, before}
@@ -12,13 +13,18 @@ use Rattle.std.specs.declared.cmp.Ordering.{Ordering}
 use Rattle.std.specs.Ordering.{nat_cmp, is_gt}
 use Rattle.std.specs.Cmp.Lexicographic.{slice_cmp}
 use Rattle.sheet.specs.Order.{order-less}
-use Rattle.sheet.specs.Find.{HasRecords}
-use Rattle.places.specs.Place.{Tail, Between, Placing, between_start, set_below, set_same, set_past}
+use Rattle.places.specs.Place.{one, one-rec, one-some, Tail, Between, Placing, between_start, set_below, set_same, set_past}
 
 -- Does each name stand before the next one.
 unfoldable pub ascending : Records → Bool
 ascending end = true
 ascending (rec n v r) = before n r && ascending r
+
+-- Does a record of r begin at byte i, or do they end there. `Between` says it with the records in front.
+unfoldable pub begins : ℕ → Records → Bool
+begins zero r = true
+begins (suc i) end = false
+begins (suc i) (rec n v r) = leb (length (one n v)) (suc i) && begins (suc i - length (one n v)) r
 
 -- A search among the records r, whose bytes are s, may start at i, or at 0. At 0 nothing is asked of the names.
 pub record Marked (s : List ℕ) (r : Records) (i : ℕ) : Type 0 where
@@ -29,6 +35,51 @@ pub record Marked (s : List ℕ) (r : Records) (i : ℕ) : Type 0 where
 pub record HasMark (s : List ℕ) (i : ℕ) : Type 0 where
   pub r : Records
   pub marked : Marked s r i
+
+pub begins-first : (r : Records) → begins 0 r ≡ true
+unfolding begins
+begins-first r = refl
+
+begins-between : (i : ℕ) (r : Records) → begins i r ≡ true → Between r i
+unfolding begins join
+begins-between zero r h = between_start r
+begins-between (suc i) end h = absurd (false≢true h)
+begins-between (suc i) (rec n v r) h =
+    let L = length (one n v) in
+    let b = begins-between (suc i - L) r (and_r (leb L (suc i)) (begins (suc i - L) r) h) in
+    record {
+      left = b.left;
+      tail = record { front = rec n v b.tail.front; whole = ap (rec n v) b.tail.whole; long = rw (one-rec n v b.tail.front, length-append) (omega (arith, b.tail.long, leb-true L (suc i) (and_l (leb L (suc i)) (begins (suc i - L) r) h))) };
+    }
+
+begins-rec : (i : ℕ) (n : List ℕ) (v : Value) (r : Records) → 0 < i → begins i (rec n v r) ≡ (leb (length (one n v)) i && begins (i - length (one n v)) r)
+unfolding begins
+begins-rec zero n v r h = absurd (omega arith)
+begins-rec (suc i) n v r h = refl
+
+begins-behind : (f q : Records) → begins (length (encode f)) (join f q) ≡ true
+unfolding join
+begins-behind end q = unfold encode begins in refl
+begins-behind (rec n v f) q =
+    let L = length (one n v) in
+    let k : length (encode (rec n v f)) ≡ L + length (encode f) = ap length (one-rec n v f) ∙ length-append (one n v) (encode f) in
+    let m : L + length (encode f) - L ≡ length (encode f) = omega arith in
+    rw (k, begins-rec (L + length (encode f)) n v (join f q) (omega (arith, one-some n v))) (and_i (leb L (L + length (encode f))) _ (le-leb L (L + length (encode f)) (omega arith)) (rw m (begins-behind f q)))
+
+pub between-begins : {r : Records} {i : ℕ} → Between r i → begins i r ≡ true
+between-begins b = rw (b.tail.whole, ← b.tail.long) (begins-behind b.tail.front b.left)
+
+-- 0 is always right.
+pub marked_start : {s : List ℕ} {r : Records} → s ≡ encode r → Marked s r 0
+marked_start {r = r} e = record { bytes = e; between = between_start r; order = λ z. absurd (z refl) }
+
+-- What a search from i asks of the records.
+pub mark-of : {s : List ℕ} {r : Records} {i : ℕ} → s ≡ encode r → ((i ≡ 0 → ⊥) → ascending r ≡ true) → (ascending r ≡ true → begins i r ≡ true) → Marked s r i
+mark-of {s} {r} {i} e a b = at i refl
+  where
+    at : (j : ℕ) → i ≡ j → Marked s r i
+    at zero z = rw z (marked_start e)
+    at (suc j) z = record { bytes = e; between = begins-between i r (b (a (λ y. omega arith))); order = a }
 
 -- Names of good records ascend, and go on to do so where one is bound.
 pub good-ascending : (r : Records) (p : ℕ → Bool) (l : ℕ) → good_records r p l ≡ true → ascending r ≡ true
@@ -48,13 +99,6 @@ pub set-ascending : (r : Records) (n : List ℕ) (v : Value) → ascending r ≡
 unfolding ascending set before
 set-ascending end n v h = refl
 set-ascending (rec m w r) n v h = set-ascending-at n m v w r (less n m) (less m n) refl refl h (set-ascending r n v (and_r (before m r) (ascending r) h))
-
--- FOR CALLERS. 0 is always right.
-pub marked_start : {s : List ℕ} {r : Records} → s ≡ encode r → Marked s r 0
-marked_start {r = r} e = record { bytes = e; between = between_start r; order = λ z. absurd (z refl) }
-
-pub has-start : {s : List ℕ} → HasRecords s → HasMark s 0
-has-start h = record { r = h.r; marked = marked_start h.bytes }
 
 -- THE START OF A SEARCH. The record at i.
 pub record There (s : List ℕ) (r : Records) (i : ℕ) : Type 0 where

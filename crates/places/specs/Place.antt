@@ -5,7 +5,10 @@ use Rattle.std.proofs.Math.Seq.{take-append_seam}
 use Rattle.rules.specs.Bytes.{less}
 use Rattle.rules.specs.Sheet.{Value, Records, end, rec, encode, field_bytes, field_mask, value_bytes, value_mask, set}
 use Rattle.sheet.specs.Parts.{Part, part-all, part-split}
-use Rattle.sheet.specs.Items.{At, join, encode-join, join_one}
+use Rattle.sheet.specs.Items.{join, encode-join, join_one}
+use Rattle.sheet.specs.Walk.{WalksOver, Meets}
+use Rattle.sheet.specs.declared.head.Item.{Item}
+use Rattle.sheet.specs.declared.lookup.Walk.{Walk}
 use Rattle.std.specs.declared.cmp.Ordering.{Ordering}
 use Rattle.std.specs.declared.cmp.Ordering.TheVariants.{Less, Equal, Greater}
 use Rattle.std.specs.Ordering.{nat_cmp, is_lt, is_gt}
@@ -65,14 +68,11 @@ pub record Placing (s : List ℕ) (r : Records) (name : List ℕ) (i : ℕ) : Ty
   pub is : (v : Value) → encode (set r name v) ≡ take i s ++ encode (set left name v)
   pub tail : (v : Value) → Tail (set r name v) i (set left name v)
 
--- The next record.
-pub record Standing (s : List ℕ) (r : Records) (name : List ℕ) (i : ℕ) : Type 0 where
-  pub m : List ℕ
-  pub w : Value
-  pub q : Records
-  pub part : Part s i (encode (rec m w q)) (length s)
-  pub is : (v : Value) → encode (set r name v) ≡ take i s ++ encode (set (rec m w q) name v)
-  pub tail : (v : Value) → Tail (set r name v) i (set (rec m w q) name v)
+-- What a walk has left stands there.
+pub record Walking (w : Walk) (s : List ℕ) (r : Records) (name : List ℕ) : Type 0 where
+  pub i : ℕ
+  pub place : Placing s r name i
+  pub over : WalksOver w s (length s) place.left
 
 pub place-start : {s : List ℕ} {r : Records} {name : List ℕ} → s ≡ encode r → Placing s r name 0
 place-start {s} {r} {name} e = record {
@@ -82,24 +82,16 @@ place-start {s} {r} {name} e = record {
   tail = λ v. tail-start (set r name v);
 }
 
-pub standing : {s : List ℕ} {r : Records} {name : List ℕ} {i : ℕ} → Placing s r name i → i < length s → Standing s r name i
-unfolding encode
-standing {s} {r} {name} {i} k h = go k.left k.part k.is k.tail
-  where
-    go : (q : Records) → Part s i (encode q) (length s) → ((v : Value) → encode (set r name v) ≡ take i s ++ encode (set q name v)) → ((v : Value) → Tail (set r name v) i (set q name v)) → Standing s r name i
-    go end p f t = absurd (omega (arith, p.ends))
-    go (rec m w q) p f t = record { m = m; w = w; q = q; part = p; is = f; tail = t }
-
-pub standing-at : {s : List ℕ} {r : Records} {name : List ℕ} {i : ℕ} → Standing s r name i → At s i
-standing-at {s} k = record { n = k.m; v = k.w; r = k.q; j = length s; part = k.part }
-
-pub place_end : {s : List ℕ} {r : Records} {name : List ℕ} {i : ℕ} → Placing s r name i → length s ≤ i → Placed s r name i i
+pub place_end : {s : List ℕ} {r : Records} {name : List ℕ} {i : ℕ} (k : Placing s r name i) → k.left ≡ end → Placed s r name (length s) (length s)
 unfolding encode set
-place_end {s} {r} {name} {i} k h = go k.left k.part k.is
-  where
-    go : (q : Records) → Part s i (encode q) (length s) → ((v : Value) → encode (set r name v) ≡ take i s ++ encode (set q name v)) → Placed s r name i i
-    go end p f = record { on = omega arith; inside = omega (arith, p.ends); is = λ v. f v ∙ ap (λ y. take i s ++ y) (one-rec name v end ∙ rw (drop_of_length-le s h) refl); put = λ v. record { left = _; tail = k.tail v } }
-    go (rec m w q) p f = absurd (omega (arith, p.ends))
+place_end {s} {r} {name} {i} k h =
+    let e : i ≡ length s = omega (arith, k.part.ends, ap (λ z. length (encode z)) h) in
+    record {
+      on = omega arith;
+      inside = omega arith;
+      is = λ v. rw (h, e) at (k.is v) ∙ ap (λ y. take (length s) s ++ y) (one-rec name v end ∙ rw (drop_of_length-le s {i = length s} (omega arith)) refl);
+      put = λ v. record { left = _; tail = rw e at (k.tail v) };
+    }
 
 pub set_below : (n m : List ℕ) (v w : Value) (r : Records) → less n m ≡ true → set (rec m w r) n v ≡ rec n v (rec m w r)
 unfolding set
@@ -117,50 +109,64 @@ set_past n m v w r h k = rw (h, k, set) refl
 part-drop : {s x : List ℕ} {i : ℕ} → Part s i x (length s) → drop i s ≡ x
 part-drop {s} {x} p = p.bytes ∙ rw (drop_of_length-le s {i = length s} (omega arith)) (append-nil x)
 
-module _ {s : List ℕ} {r : Records} {name : List ℕ} {i : ℕ} (k : Standing s r name i) {a : List ℕ} {c : Ordering} (p : a ≡ k.m) (h : c ≡ slice_cmp nat_cmp a name) where
-  order_is : slice_cmp nat_cmp k.m name ≡ c
-  order_is = sym (h ∙ ap (λ z. slice_cmp nat_cmp z name) p)
+-- The item o at i is of the first record that is left.
+module _ {s : List ℕ} {r : Records} {name : List ℕ} {j : ℕ} (k : Placing s r name j) {i : ℕ} {o : Item} {x : Walk} (d : Meets s (length s) k.left i o x) {c : Ordering} (h : c ≡ slice_cmp nat_cmp o.name.now name) where
+  order_is : slice_cmp nat_cmp d.n name ≡ c
+  order_is = sym (h ∙ ap (λ z. slice_cmp nat_cmp z name) d.told.name)
+
+  here : j ≡ i
+  here = omega (arith, k.part.ends, d.part.ends, ap (λ z. length (encode z)) d.is)
+
+  is : (v : Value) → encode (set r name v) ≡ take i s ++ encode (set (rec d.n d.v d.q) name v)
+  is v = rw (d.is, here) at (k.is v)
+
+  tail : (v : Value) → Tail (set r name v) i (set (rec d.n d.v d.q) name v)
+  tail v = rw (d.is, here) at (k.tail v)
 
   pub place-below : c ≡ Greater → Placed s r name i i
   place-below e =
-      let l : less name k.m ≡ true = (order-less k.m name).1 ∙ ap is_gt (order_is ∙ e) in
+      let l : less name d.n ≡ true = (order-less d.n name).1 ∙ ap is_gt (order_is ∙ e) in
       record {
         on = omega arith;
-        inside = omega (arith, k.part.ends);
-        put = λ v. record { left = _; tail = k.tail v };
-        is = λ v. k.is v ∙ ap (λ z. take i s ++ z) (ap encode (set_below name k.m v k.w k.q l) ∙ one-rec name v (rec k.m k.w k.q) ∙ ap (λ z. one name v ++ z) (sym (part-drop k.part)));
+        inside = omega (arith, d.part.ends);
+        put = λ v. record { left = _; tail = tail v };
+        is = λ v. is v ∙ ap (λ z. take i s ++ z) (ap encode (set_below name d.n v d.v d.q l) ∙ one-rec name v (rec d.n d.v d.q) ∙ ap (λ z. one name v ++ z) (sym (part-drop d.part)));
       }
 
-  module _ {e : ℕ} (t : Part s e (encode k.q) (length s)) (o : i ≤ e) where
+  module _ {e : ℕ} (t : Part s e (encode d.q) (length s)) (n : i ≤ e) where
     pub place_same : c ≡ Equal → Placed s r name i e
     place_same g =
-        let l : less name k.m ≡ false = (order-less k.m name).1 ∙ ap is_gt (order_is ∙ g) in
-        let m : less k.m name ≡ false = (order-less k.m name).0 ∙ ap is_lt (order_is ∙ g) in
+        let l : less name d.n ≡ false = (order-less d.n name).1 ∙ ap is_gt (order_is ∙ g) in
+        let m : less d.n name ≡ false = (order-less d.n name).0 ∙ ap is_lt (order_is ∙ g) in
         record {
-          on = o;
+          on = n;
           inside = omega (arith, t.ends);
-          put = λ v. record { left = _; tail = k.tail v };
-          is = λ v. k.is v ∙ ap (λ z. take i s ++ z) (ap encode (set_same name k.m v k.w k.q l m) ∙ one-rec name v k.q ∙ ap (λ z. one name v ++ z) (sym (part-drop t)));
+          put = λ v. record { left = _; tail = tail v };
+          is = λ v. is v ∙ ap (λ z. take i s ++ z) (ap encode (set_same name d.n v d.v d.q l m) ∙ one-rec name v d.q ∙ ap (λ z. one name v ++ z) (sym (part-drop t)));
         }
 
-    whole : Part s i (one k.m k.w ++ encode k.q) (length s)
-    whole = rw (one-rec k.m k.w k.q) at k.part
+    whole : Part s i (one d.n d.v ++ encode d.q) (length s)
+    whole = rw (one-rec d.n d.v d.q) at d.part
 
-    ends : i + length (one k.m k.w) ≡ e
-    ends = omega (arith, t.ends, whole.ends, length-append (one k.m k.w) (encode k.q))
+    ends : i + length (one d.n d.v) ≡ e
+    ends = omega (arith, t.ends, whole.ends, length-append (one d.n d.v) (encode d.q))
 
-    passed : take e s ≡ take i s ++ one k.m k.w
+    passed : take e s ≡ take i s ++ one d.n d.v
     passed =
-        let p₂ = (part-split s i (one k.m k.w) (encode k.q) (length s) whole).0 in
-        sym (ap (λ z. take z s) ends) ∙ take-add i (length (one k.m k.w)) s ∙ ap (λ z. take i s ++ z) (rw p₂.bytes (take-append_seam (one k.m k.w) _))
+        let p₂ = (part-split s i (one d.n d.v) (encode d.q) (length s) whole).0 in
+        sym (ap (λ z. take z s) ends) ∙ take-add i (length (one d.n d.v)) s ∙ ap (λ z. take i s ++ z) (rw p₂.bytes (take-append_seam (one d.n d.v) _))
 
-    pub place-on : c ≡ Less → Placing s r name e
+    pub place-on : c ≡ Less → Walking x s r name
     place-on z =
-        let l : less name k.m ≡ false = (order-less k.m name).1 ∙ ap is_gt (order_is ∙ z) in
-        let m : less k.m name ≡ true = (order-less k.m name).0 ∙ ap is_lt (order_is ∙ z) in
+        let l : less name d.n ≡ false = (order-less d.n name).1 ∙ ap is_gt (order_is ∙ z) in
+        let m : less d.n name ≡ true = (order-less d.n name).0 ∙ ap is_lt (order_is ∙ z) in
         record {
-          left = k.q;
-          part = t;
-          tail = λ v. rw ends at (tail-next (rw (set_past name k.m v k.w k.q l m) at (k.tail v)));
-          is = λ v. k.is v ∙ ap (λ z. take i s ++ z) (ap encode (set_past name k.m v k.w k.q l m) ∙ one-rec k.m k.w (set k.q name v)) ∙ rw passed (simp append_assoc);
+          i = e;
+          place = record {
+            left = d.q;
+            part = t;
+            tail = λ v. rw ends at (tail-next (rw (set_past name d.n v d.v d.q l m) at (tail v)));
+            is = λ v. is v ∙ ap (λ z. take i s ++ z) (ap encode (set_past name d.n v d.v d.q l m) ∙ one-rec d.n d.v (set d.q name v)) ∙ rw passed (simp append_assoc);
+          };
+          over = d.over;
         }

@@ -8,7 +8,7 @@ ghost use Rattle.places.specs.Mark.{Marked, HasMark};
 
 use scan::Range;
 use sheet::Name;
-use sheet::lookup::{item, order, skip};
+use sheet::lookup::{Walk, item, order, skip};
 use std::cmp::Ordering;
 
 // Where the search for a name starts: at `last`, unless the record there comes behind the name.
@@ -35,15 +35,22 @@ pub fn find_place(s: &[u8], last: usize, name: Name<'_>) -> Range
     requires { HasMark s.now last }
     ensures { (r : Records) → Marked s.now r last → Placed s.now r (asked name.entry) result.from result.to }
 {
-    let mut i = start(s, last, name);
-    while i < s.len() {
-        let o = item(s, i);
-        let e = skip(s, o.next, o.count);
+    let level = Range {
+        from: start(s, last, name),
+        to: s.len(),
+    };
+    for (i, o) in Walk::over(s, level) {
         match order(o.name, name) {
-            Ordering::Less => i = e,
-            Ordering::Equal => return Range { from: i, to: e },
+            Ordering::Less => {}
+            Ordering::Equal => {
+                let end = skip(s, o.next, o.count);
+                return Range { from: i, to: end };
+            }
             Ordering::Greater => return Range { from: i, to: i },
         }
     }
-    Range { from: i, to: i }
+    Range {
+        from: s.len(),
+        to: s.len(),
+    }
 }

@@ -15,14 +15,13 @@ use Rattle.rules.specs.Sheet.{Lookup, text_of}
 use Rattle.rules.specs.Strings.{literal, reference}
 use Rattle.rules.specs.Expansion.{Arguments, stalled, arguments, Round, lang_value, block_value, argument_value, argument_round}
 use Rattle.rules.proofs.Laws.Enough.{rounds-again, rounds-stop, argument_moving}
+use Rattle.scan.specs.declared.read.Read.{Read}
 use Rattle.scan.specs.Sets.{byte_is, part, Spans, Sees}
 use Rattle.scan.specs.Laws.{seen, sees-the, skip_at}
 use Rattle.scan.specs.Laws.{tail-part}
 use Rattle.raw_arguments.specs.declared.Lang.{Lang}
 use Rattle.raw_arguments.specs.declared.Lang.TheVariants.{Literal, Reference}
-use Rattle.raw_arguments.specs.declared.LangRead.{LangRead}
 use Rattle.raw_arguments.specs.declared.Setting.{Setting}
-use Rattle.raw_arguments.specs.declared.ArgumentRead.{ArgumentRead}
 use Rattle.raw_arguments.specs.declared.Setting.TheVariants.{Language, Block}
 use Rattle.raw_arguments.specs.declared.Args.{Args}
 use Rattle.string_ends.specs.Ends.{Ends}
@@ -40,9 +39,9 @@ abbrev pub arguments_from : Lookup → List ℕ × Bool → Reader Arguments
 arguments_from look a = rounds (argument_round look) (λ a. arguments a.0 a.1) a
 
 -- `lang` takes that of r.
-pub record IsLanguage (look : Lookup) (t : List ℕ) (r : LangRead) : Type 0 where
+pub record IsLanguage (look : Lookup) (t : List ℕ) (r : Read Lang) : Type 0 where
   pub inside : r.used ≤ length t
-  pub takes : (k : Bool) → lang_value look k t ≡ (again (lang_text look (Some r.lang), k), drop r.used t)
+  pub takes : (k : Bool) → lang_value look k t ≡ (again (lang_text look (Some r.what), k), drop r.used t)
 
 -- The rest of a round, behind the blanks and commas g.
 unfoldable pub named : Lookup → List ℕ × Bool → List ℕ → Round
@@ -63,23 +62,23 @@ turn look (Some (Block d)) a s = again (a.0, d)
 turn look None a s = unset a s
 
 -- The argument that t begins with is r.
-pub record Sets (look : Lookup) (t : List ℕ) (r : ArgumentRead) : Type 0 where
+pub record Sets (look : Lookup) (t : List ℕ) (r : Read (Option Setting)) : Type 0 where
   pub inside : r.used ≤ length t
-  pub turns : (a : List ℕ × Bool) (g : List ℕ) → named look a g t ≡ (turn look r.setting a (empty g && leb r.used 0), drop r.used t)
+  pub turns : (a : List ℕ × Bool) (g : List ℕ) → named look a g t ≡ (turn look r.what a (empty g && leb r.used 0), drop r.used t)
 
 -- The arguments are those of r.
-pub record Given (look : Lookup) (t : List ℕ) (r : Args) : Type 0 where
+pub record Given (look : Lookup) (t : List ℕ) (r : Read Args) : Type 0 where
   pub inside : r.used ≤ length t
-  pub ends : arguments_from look ([], false) t ≡ (arguments (lang_text look r.lang) r.block, drop r.used t)
+  pub ends : arguments_from look ([], false) t ≡ (arguments (lang_text look r.what.lang) r.what.block, drop r.used t)
 
 -- The arguments stall, or are given.
-unfoldable pub IsArguments : Lookup → List ℕ → Result Args Refusal → Type 0
+unfoldable pub IsArguments : Lookup → List ℕ → Result (Read Args) Refusal → Type 0
 IsArguments look t (Ok r) = Given look t r
 IsArguments look t (Err e) = (e ≡ Stalled) × ((arguments_from look ([], false) t).0 ≡ stalled)
 
 -- WHAT `lang` TAKES.
 module _ (look : Lookup) {t : List ℕ} {q : Bool} (s : Sees (byte_is 34) t 0 q) where
-  pub language-literal : {k : ℕ} {l : Bor (List ℕ)} → q ≡ true → l.now ≡ part t 1 (length t) → Ends (literal l.now) l.now k → IsLanguage look t (record { lang = Literal l; used = 1 + k })
+  pub language-literal : {k : ℕ} {l : Bor (List ℕ)} → q ≡ true → l.now ≡ part t 1 (length t) → Ends (literal l.now) l.now k → IsLanguage look t (record { what = Literal l; used = 1 + k })
   unfolding lang_value ◌>>=◌ ◌>>◌ if_r ret lang_text
   language-literal {k} {l} e x w =
       let h : 0 < length t = s.there e in
@@ -91,7 +90,7 @@ module _ (look : Lookup) {t : List ℕ} {q : Bool} (s : Sees (byte_is 34) t 0 q)
         takes = λ z. rw ((sees-the "\"" s e).says, skip_at t 0 h, r, y) refl;
       }
 
-  pub language-reference : {k : ℕ} {l : Bor (List ℕ)} → q ≡ false → l.now ≡ take k t → Spans run_byte t 0 k → IsLanguage look t (record { lang = Reference l; used = k })
+  pub language-reference : {k : ℕ} {l : Bor (List ℕ)} → q ≡ false → l.now ≡ take k t → Spans run_byte t 0 k → IsLanguage look t (record { what = Reference l; used = k })
   unfolding lang_value reference ◌>>=◌ ◌>>◌ if_r ret lang_text
   language-reference e x n = record {
     inside = n.inside;
@@ -134,17 +133,17 @@ module _ {t : List ℕ} {n c : ℕ} (N : Spans word t 0 n) (C : Spans (either ":
     unfolding named ◌>>=◌
     named-at a g = rw (N.took, N.rest, C.took, C.rest, both-empty g, sub-zero) refl
 
-    pub sets-language : {q : Bool} {r : LangRead} → q ≡ same (take n t) (bytes "lang") → q ≡ true → IsLanguage look (part t c (length t)) r → Sets look t (record { setting = Some (Language r.lang); used = c + r.used })
+    pub sets-language : {q : Bool} {r : Read Lang} → q ≡ same (take n t) (bytes "lang") → q ≡ true → IsLanguage look (part t c (length t)) r → Sets look t (record { what = Some (Language r.what); used = c + r.used })
     unfolding turn argument_value if_r
     sets-language {q} {r} l e s₀ =
         let s : IsLanguage look (drop c t) r = rw tail-part at s₀ in
         record {
           inside = omega (arith, C.inside, simp length-drop at s.inside);
-          turns = λ a g. named-at a g ∙ rw (sym l ∙ e) (s.takes a.1 ∙ ap (λ z. (again (lang_text look (Some r.lang), a.1), z)) (drop-drop r.used c t));
+          turns = λ a g. named-at a g ∙ rw (sym l ∙ e) (s.takes a.1 ∙ ap (λ z. (again (lang_text look (Some r.what), a.1), z)) (drop-drop r.used c t));
         }
 
     module _ {q : Bool} (l : q ≡ same (take n t) (bytes "lang")) (e : q ≡ false) where
-      pub sets_block : {p d : Bool} {k : ℕ} → p ≡ same (take n t) (bytes "block") → p ≡ true → Spans letter t c k → d ≡ same (part t c k) (bytes "true") → Sets look t (record { setting = Some (Block d); used = k })
+      pub sets_block : {p d : Bool} {k : ℕ} → p ≡ same (take n t) (bytes "block") → p ≡ true → Spans letter t c k → d ≡ same (part t c k) (bytes "true") → Sets look t (record { what = Some (Block d); used = k })
       unfolding turn argument_value block_value ◌>>=◌ if_r ret
       sets_block m f s y = record {
         inside = s.inside;
@@ -156,7 +155,7 @@ module _ {t : List ℕ} {n c : ℕ} (N : Spans word t 0 n) (C : Spans (either ":
       unset-at a u true = refl
       unset-at a u false = refl
 
-      pub sets-nothing : {p : Bool} → p ≡ same (take n t) (bytes "block") → p ≡ false → Sets look t (record { setting = None; used = c })
+      pub sets-nothing : {p : Bool} → p ≡ same (take n t) (bytes "block") → p ≡ false → Sets look t (record { what = None; used = c })
       unfolding turn argument_value if_r
       sets-nothing m f = record {
         inside = C.inside;
@@ -173,14 +172,14 @@ module _ (look : Lookup) (a : List ℕ × Bool) {t : List ℕ} {i g : ℕ} (G : 
   unfolding argument_round named ◌>>=◌ if_r
   round-named M = rw (G.took, G.rest, M.says) refl
 
-  round-sets : {r : ArgumentRead} → Sees (but ")") t g true → Sets look (drop g t) r → argument_round look a (drop i t) ≡ (turn look r.setting a (leb (g + r.used) i), drop (g + r.used) t)
+  round-sets : {r : Read (Option Setting)} → Sees (but ")") t g true → Sets look (drop g t) r → argument_round look a (drop i t) ≡ (turn look r.what a (leb (g + r.used) i), drop (g + r.used) t)
   round-sets {r} M s =
       let moved : (empty (part t i g) && leb r.used 0) ≡ leb (g + r.used) i = rw (empty-part t i g G.inside, leb-from g r.used) (leb-both i g (g + r.used) G.on (omega arith)) in
       round-named M ∙ s.turns a (part t i g)
-      ∙ λ j. (turn look r.setting a (moved j), drop-drop r.used g t j)
+      ∙ λ j. (turn look r.what a (moved j), drop-drop r.used g t j)
 
 -- An argument ends inside the text.
-pub sets-inside : {look : Lookup} {t : List ℕ} {i g : ℕ} → Spans (either "," blank) t i g → {r : ArgumentRead} → Sets look (part t g (length t)) r → g + r.used ≤ length t
+pub sets-inside : {look : Lookup} {t : List ℕ} {i g : ℕ} → Spans (either "," blank) t i g → {r : Read (Option Setting)} → Sets look (part t g (length t)) r → g + r.used ≤ length t
 sets-inside {look} {t} G S₀ = let s = rw tail-part at S₀ in omega (arith, G.inside, simp length-drop at s.inside)
 
 -- THE ROUNDS: the arguments are read up to i.
@@ -215,24 +214,24 @@ module _ {look : Lookup} {t : List ℕ} {i : ℕ} {lang : Option Lang} {block : 
 
   module _ {g : ℕ} (G : Spans (either "," blank) t i g) {m : Bool} (M : Sees (but ")") t g m) where
     -- It ends at `)`, or at the end.
-    pub args_end : m ≡ false → IsArguments look t (Ok (record { lang = lang; block = block; used = g }))
+    pub args_end : m ≡ false → IsArguments look t (Ok (record { what = record { lang = lang; block = block }; used = g }))
     unfolding IsArguments
     args_end e = record { inside = G.inside; ends = args_stop g (round-end look set G (seen M e)) }
 
     -- It has an argument.
-    module _ (e : m ≡ true) {r : ArgumentRead} (S₀ : Sets look (part t g (length t)) r) where
-      round : {f : Option Setting} → r.setting ≡ f → argument_round look set (drop i t) ≡ (turn look f set (leb (g + r.used) i), drop (g + r.used) t)
+    module _ (e : m ≡ true) {r : Read (Option Setting)} (S₀ : Sets look (part t g (length t)) r) where
+      round : {f : Option Setting} → r.what ≡ f → argument_round look set (drop i t) ≡ (turn look f set (leb (g + r.used) i), drop (g + r.used) t)
       round h = round-sets look set G (seen M e) (rw tail-part at S₀) ∙ ap (λ z. (turn look z set (leb (g + r.used) i), drop (g + r.used) t)) h
 
-      pub args_language : {f : Setting} {v : Lang} → r.setting ≡ Some f → f ≡ Language v → (i < g + r.used) × ArgsAt look t (g + r.used) (Some v) block
+      pub args_language : {f : Setting} {v : Lang} → r.what ≡ Some f → f ≡ Language v → (i < g + r.used) × ArgsAt look t (g + r.used) (Some v) block
       unfolding turn
       args_language {v = v} h y = args_next {v = Some v} (sets-inside G S₀) (round (h ∙ ap Some y))
 
-      pub args_block : {f : Setting} {d : Bool} → r.setting ≡ Some f → f ≡ Block d → (i < g + r.used) × ArgsAt look t (g + r.used) lang d
+      pub args_block : {f : Setting} {d : Bool} → r.what ≡ Some f → f ≡ Block d → (i < g + r.used) × ArgsAt look t (g + r.used) lang d
       unfolding turn
       args_block h y = args_next (sets-inside G S₀) (round (h ∙ ap Some y))
 
-      module _ (h : r.setting ≡ None) where
+      module _ (h : r.what ≡ None) where
         pub args_nothing : (g + r.used ≡ i → ⊥) → (i < g + r.used) × ArgsAt look t (g + r.used) lang block
         unfolding turn unset
         args_nothing n = args_next (sets-inside G S₀) (round h ∙ rw (lt-leb (g + r.used) i (omega (arith, G.on, n))) refl)

@@ -1,17 +1,13 @@
 // The text of a language: looked up once, measured, then put.
-ghost use Rattle.std.specs.Prelude.{◌≡◌, ◌+◌, ◌^◌, ◌<◌, length};
-ghost use Rattle.rules.specs.Run.{put, ok};
+ghost use Rattle.std.specs.Prelude.{SomeIff, ◌≡◌, ◌≤◌, length};
 ghost use Rattle.rules.specs.Sheet.{resolve};
 ghost use Rattle.sheet.specs.Records.{records_of};
-ghost use Rattle.buffers.specs.Put.{after};
-ghost use Rattle.buffers.specs.Wrote.{Wrote};
 ghost use Rattle.raw_arguments.specs.Args.{lang_text};
 ghost use Rattle.raw_arguments.specs.Lang.{text_of_lang};
 
 use crate::Lang;
-use buffers::writer::Writer;
-use refusal::Refusal;
 use sheet::Sheet;
+use string_ends::Pieces;
 
 // A language whose reference is looked up: a literal, from behind its quote; a text that stands as it is.
 #[derive(Clone, Copy)]
@@ -34,31 +30,30 @@ pub fn look_up<'a>(sheet: &Sheet<'a>, lang: Option<Lang<'a>>) -> LangText<'a>
     }
 }
 
-// How long the text is, as far as the room goes.
+// How long the text is; none where that is more than the room.
 #[tactic(auto, unfolding(crate::specs::Lang::text_of_lang))]
-pub fn measure(lang: LangText<'_>, room: usize) -> usize
-    requires { room + 1 < 2 ^ 64 }
-    ensures { result ≡ after room 0 (length (text_of_lang lang.entry)) }
+pub fn measure(lang: LangText<'_>, room: usize) -> Option<usize>
+    ensures { SomeIff result (length (text_of_lang lang.entry) ≤ room) (length (text_of_lang lang.entry)) }
 {
     match lang {
         LangText::Literal(text) => {
-            let m = calls::measure::literal(text, room);
-            let size = m.size;
+            let read = calls::measure::literal(text, room);
+            let size = read.what;
             size.len
         }
-        LangText::Plain(text) => buffers::after(room, 0, text.len()),
+        LangText::Plain(text) => buffers::within(room, 0, text.len()),
     }
 }
 
-// Puts the text.
-pub fn put(lang: LangText<'_>, w: &mut Writer<'_>) -> Result<(), Refusal>
-    ensures { Wrote (put (text_of_lang lang.entry) ok) w.old w.new result }
+// Puts the text, piece by piece.
+#[tactic(auto, unfolding(crate::specs::Lang::text_of_lang))]
+pub fn put<P: Pieces>(lang: LangText<'_>, to: &mut P)
+    ensures { P.Takes to.old (text_of_lang lang.entry) to.new }
 {
     match lang {
         LangText::Literal(text) => {
-            strings::literal(text, w)?;
-            Ok(())
+            string_ends::literal(text, to);
         }
-        LangText::Plain(text) => w.put(text),
+        LangText::Plain(text) => to.take(text),
     }
 }

@@ -5,7 +5,7 @@ ghost use Rattle.rules.specs.Sheet.{Lookup};
 ghost use Rattle.raw_arguments.specs.Args.{IsLanguage, Sets, IsArguments};
 
 use refusal::Refusal;
-use scan::Set;
+use scan::{Read, Set};
 
 pub mod language_text;
 
@@ -16,27 +16,20 @@ pub enum Lang<'a> {
     Reference(&'a [u8]),
 }
 
-// What `lang` takes, and how many bytes were read.
-#[derive(Clone, Copy)]
-pub struct LangRead<'a> {
-    pub lang: Lang<'a>,
-    pub used: usize,
-}
-
 // What `lang` takes: a literal at `"`, else a reference.
-fn language<'a>(text: &'a [u8]) -> LangRead<'a>
+fn language<'a>(text: &'a [u8]) -> Read<Lang<'a>>
     ensures { (look : Lookup) → IsLanguage look text.now result }
 {
     if scan::at(text, 0, b'"') {
         let literal = &text[1..];
-        return LangRead {
-            lang: Lang::Literal(literal),
+        return Read {
+            what: Lang::Literal(literal),
             used: 1 + string_ends::literal_end(literal),
         };
     }
     let used = scan::span(text, 0, Set::Run);
-    LangRead {
-        lang: Lang::Reference(&text[..used]),
+    Read {
+        what: Lang::Reference(&text[..used]),
         used,
     }
 }
@@ -48,50 +41,42 @@ pub enum Setting<'a> {
     Block(bool),
 }
 
-// What an argument sets, nothing under any other name, and how many bytes were read.
-#[derive(Clone, Copy)]
-pub struct ArgumentRead<'a> {
-    pub setting: Option<Setting<'a>>,
-    pub used: usize,
-}
-
-// The argument that a text begins with. Its name may be empty.
-fn argument<'a>(text: &'a [u8]) -> ArgumentRead<'a>
+// The argument that a text begins with. Its name may be empty; under a name other than those two it sets nothing.
+fn argument<'a>(text: &'a [u8]) -> Read<Option<Setting<'a>>>
     ensures { (look : Lookup) → Sets look text.now result }
 {
     let end = scan::span(text, 0, Set::Word);
     let from = scan::span(text, end, Set::ColonOrBlank);
     if scan::same(&text[..end], b"lang") {
         let read = language(&text[from..]);
-        return ArgumentRead {
-            setting: Some(Setting::Language(read.lang)),
+        return Read {
+            what: Some(Setting::Language(read.what)),
             used: from + read.used,
         };
     }
     if scan::same(&text[..end], b"block") {
         let used = scan::span(text, from, Set::Letter);
         let on = scan::same(&text[from..used], b"true");
-        return ArgumentRead {
-            setting: Some(Setting::Block(on)),
+        return Read {
+            what: Some(Setting::Block(on)),
             used,
         };
     }
-    ArgumentRead {
-        setting: None,
+    Read {
+        what: None,
         used: from,
     }
 }
 
-// What the arguments come to: the language, if one is given; is it a block; and how many bytes were read.
+// What the arguments come to: the language, if one is given; is it a block.
 #[derive(Clone, Copy)]
 pub struct Args<'a> {
     pub lang: Option<Lang<'a>>,
     pub block: bool,
-    pub used: usize,
 }
 
 // Reads the arguments of a raw call, up to `)` or the end. A later argument replaces an earlier one. A round that moves by nothing is refused.
-pub fn arguments<'a>(text: &'a [u8]) -> Result<Args<'a>, Refusal>
+pub fn arguments<'a>(text: &'a [u8]) -> Result<Read<Args<'a>>, Refusal>
     ensures { (look : Lookup) → IsArguments look text.now result }
 {
     let mut lang = None;
@@ -100,15 +85,14 @@ pub fn arguments<'a>(text: &'a [u8]) -> Result<Args<'a>, Refusal>
     'rounds: loop {
         let from = scan::span(text, i, Set::CommaOrBlank);
         if !scan::sees(text, from, Set::NotParen) {
-            return Ok(Args {
-                lang,
-                block,
+            return Ok(Read {
+                what: Args { lang, block },
                 used: from,
             });
         }
         let read = argument(&text[from..]);
         let next = from + read.used;
-        match read.setting {
+        match read.what {
             Some(Setting::Language(given)) => lang = Some(given),
             Some(Setting::Block(on)) => block = on,
             None => {

@@ -1,5 +1,5 @@
 -- The first bytes of a text that comes piece by piece.
-use Rattle.std.specs.Prelude.{◌≡◌, refl, List, [], ◌++◌, ℕ, ◌+◌, ◌-◌, ◌≤◌, min, length, take}
+use Rattle.std.specs.Prelude.{◌≡◌, refl, List, [], ◌++◌, ℕ, ◌+◌, ◌-◌, ◌≤◌, length, take}
 use Rattle.std.proofs.Common.{sym, ap, ◌∙◌, arith, append-nil, length-append, take_all}
 use Rattle.std.proofs.Math.Decide.{dec_le}
 use Rattle.std.proofs.Math.Seq.{take-append-add}
@@ -31,11 +31,3 @@ module _ {A : Type 0} (takes : A → List ℕ → A → Type 0) where
 
   pub first-more : (a b c : FirstBytes A) (v w : List ℕ) → TakesFirst takes a v b → TakesFirst takes b w c → ((v w : List ℕ) → takes a.to.now v b.to.now → takes b.to.now w c.to.now → takes a.to.now (v ++ w) c.to.now) → TakesFirst takes a (v ++ w) c
   first-more a b c v w p q more = (q.0 ∙ p.0, omega (arith, p.1, q.1, length-append v w), rw (sym (take-both a.left v w)) (more _ _ p.2 (rw p.1 at q.2)))
-
--- Of a text that stands somewhere.
-pub first-text : (n : ℕ) (v : List ℕ) {k : ℕ} → k ≡ min n (length v) → take n v ≡ take k v
-first-text n v {k} e = at (dec_le n (length v))
-  where
-    at : Dec (n ≤ length v) → take n v ≡ take k v
-    at (yes h) = let z : k ≡ n = omega (arith, e) in rw z refl
-    at (no h) = let z : k ≡ length v = omega (arith, e) in rw z (take_all n v (omega arith) ∙ sym (take_all (length v) v (omega arith)))

@@ -16,8 +16,6 @@ pub struct FirstBytes<'a, P: Pieces> {
 }
 
 impl<'a, P: Pieces> Pieces for FirstBytes<'a, P> {
-    ghost Ready = { λ a. P.Ready a.to.now };
-
     ghost Takes = { TakesFirst P.Takes };
 
     fn take(&mut self, piece: &[u8]) {
@@ -26,16 +24,14 @@ impl<'a, P: Pieces> Pieces for FirstBytes<'a, P> {
         self.left -= n;
     }
 
-    ghost none = { λ a r. first-none P.Takes a (P.none a.to.now r) };
+    ghost none = { λ a. first-none P.Takes a (P.none a.to.now) };
 
     ghost more = { λ a b c v w p q. first-more P.Takes a b c v w p q (P.more a.to.now b.to.now c.to.now) };
 }
 
 // Reads an expression, and takes the first n bytes of its text.
 pub fn read_first<P: Pieces>(text: &[u8], sheet: &Sheet<'_>, n: usize, to: &mut P)
-    requires { P.Ready to.old }
-    ensures ready { P.Ready to.new }
-    ensures takes { P.Takes to.old (take n (expression (resolve (records_of sheet.now)) text.now).0) to.new }
+    ensures { P.Takes to.old (take n (expression (resolve (records_of sheet.now)) text.now).0) to.new }
 {
     let mut first = FirstBytes { left: n, to };
     strings::read_expression(text, sheet, &mut first);

@@ -1,48 +1,60 @@
 -- Writing the opening of a record into a sheet's buffer.
-use Rattle.std.specs.Prelude.{◌≡◌, Bool, true, false, cond, ◌||◌, ℕ, zero, suc, ◌+◌, ◌/◌, ◌%◌, ◌≤◌, ◌<◌, eqb, set as put, drop, get_or}
+use Rattle.std.specs.Prelude.{◌≡◌, cond, ℕ, zero, suc, ◌+◌, ◌/◌, ◌%◌, ◌≤◌, ◌<◌, eqb, set as put, drop, get_or, Option, Some, None}
 use Rattle.std.proofs.Math.Path.{refl, ap}
 use Rattle.std.proofs.Common.{sym, ◌∙◌, add-one, arith, length-append, drop_of_length-le, drop-cons, eq-eqb, ne_eqb}
 use mathlib.Core.List.{List, [], ◌∷◌, ◌++◌, append-nil}
 use Rattle.std.specs.Int.{w16, to_le_bytes}
-use Rattle.std.specs.Int.Bits.{bit_and, bit_or}
+use Rattle.std.specs.Int.Bits.{bit_or}
 use Rattle.std.proofs.Math.ListN.{length}
 use Rattle.std.proofs.Math.Seq.{sets}
 use Rattle.buffers.specs.Laws.{sets-append}
-use Rattle.rules.specs.Sheet.{Value, text, nothing, dictionary, word16_bytes, field_bytes, field_mask, value_mask}
+use Rattle.rules.specs.Sheet.{word16_bytes, field_bytes, field_mask}
+use Rattle.record_bytes.specs.declared.Lead.{Lead}
+use Rattle.record_bytes.specs.declared.Lead.TheVariants.{Empty, Nothing, Text, Dictionary}
 
 -- Bytes of a field of a length, with its length.
 unfoldable pub wide : ℕ → ℕ
 wide n = cond (eqb n 0) 0 (2 + n)
 
--- A text and a dictionary begin with a number: its length, its count.
-unfoldable pub numbered : ℕ → Bool
-numbered bit = eqb bit 2 || eqb bit 4
+-- A value's bit of the map byte.
+unfoldable pub lead_bit : Lead → ℕ
+lead_bit Empty = 0
+lead_bit Nothing = 8
+lead_bit (Text n) = 2
+lead_bit (Dictionary n) = 4
 
-unfoldable pub number : ℕ → ℕ → List ℕ
-number bit count = cond (numbered bit) (word16_bytes count) []
+-- A text and a dictionary begin with a number: its length, its count.
+unfoldable pub number_of : Lead → Option ℕ
+number_of Empty = None
+number_of Nothing = None
+number_of (Text n) = Some n
+number_of (Dictionary n) = Some n
+
+unfoldable pub written_number : Option ℕ → List ℕ
+written_number None = []
+written_number (Some n) = word16_bytes n
 
 -- A record of the name up to its value's own bytes, and how many that are.
-unfoldable pub opening : List ℕ → ℕ → ℕ → List ℕ
-opening n bit count = (field_mask 1 n + bit) ∷ (field_bytes n ++ number bit count)
+unfoldable pub opening : List ℕ → Lead → List ℕ
+opening n lead = (field_mask 1 n + lead_bit lead) ∷ (field_bytes n ++ written_number (number_of lead))
 
-unfoldable pub open_len : ℕ → ℕ → ℕ
-open_len n bit = 1 + wide n + cond (numbered bit) 2 0
+unfoldable pub open_len : ℕ → Lead → ℕ
+open_len n lead = 1 + wide n + length (written_number (number_of lead))
 
--- A value's bit.
-pub record IsBit (bit : ℕ) : Type 0 where
-  pub v : Value
-  pub is : value_mask v ≡ bit
+-- A value's number is at most n.
+unfoldable pub counted : Option ℕ → ℕ
+counted None = 0
+counted (Some n) = n
 
 -- There is room for an opening.
-pub record Opens (b : List ℕ) (at n bit count : ℕ) : Type 0 where
-  pub sort : IsBit bit
+pub record Opens (b : List ℕ) (at n : ℕ) (lead : Lead) : Type 0 where
   pub short : n ≤ 65535
-  pub small : count ≤ 65535
-  pub room : at + open_len n bit ≤ length b
+  pub small : counted (number_of lead) ≤ 65535
+  pub room : at + open_len n lead ≤ length b
 
 -- The map byte of a name of n bytes.
-unfoldable pub map_no : ℕ → ℕ → ℕ
-map_no n bit = cond (eqb n 0) 0 1 + bit
+unfoldable pub map_no : ℕ → Lead → ℕ
+map_no n lead = cond (eqb n 0) 0 1 + lead_bit lead
 
 pub wide-zero : (n : ℕ) → n ≡ 0 → wide n ≡ 0
 unfolding wide
@@ -67,53 +79,41 @@ unfolding field_bytes word16_bytes
 field-length [] = sym (wide-zero 0 refl)
 field-length (x ∷ xs) = omega (arith, wide-some (suc (length xs)) (λ e. omega arith))
 
-number-length : (bit count : ℕ) → length (number bit count) ≡ cond (numbered bit) 2 0
-unfolding number word16_bytes
-number-length bit count = go (numbered bit)
-  where
-    go : (c : Bool) → length (cond c (count % 256 ∷ count / 256 ∷ []) []) ≡ cond c 2 0
-    go true = refl
-    go false = refl
-
-pub opening-length : (n : List ℕ) (bit count : ℕ) → length (opening n bit count) ≡ open_len (length n) bit
+pub opening-length : (n : List ℕ) (lead : Lead) → length (opening n lead) ≡ open_len (length n) lead
 unfolding opening open_len
-opening-length n bit count = omega (arith, length-append (field_bytes n) (number bit count), field-length n, number-length bit count)
+opening-length n lead = omega (arith, length-append (field_bytes n) (written_number (number_of lead)), field-length n)
 
-pub open_le : (n bit : ℕ) → open_len n bit ≤ n + 5
-unfolding open_len
-open_le n bit = go (numbered bit) (wide_ge n)
-  where
-    go : (c : Bool) → wide n ≤ 2 + n → 1 + wide n + cond c 2 0 ≤ n + 5
-    go true h = omega arith
-    go false h = omega arith
+number-short : (x : Option ℕ) → length (written_number x) ≤ 2
+unfolding written_number word16_bytes
+number-short None = omega arith
+number-short (Some n) = omega arith
 
-pub open_ge : (n bit : ℕ) → n ≤ open_len n bit
+pub open_le : (n : ℕ) (lead : Lead) → open_len n lead ≤ n + 5
 unfolding open_len
-open_ge n bit = omega (arith, wide-le n)
+open_le n lead = omega (arith, wide_ge n, number-short (number_of lead))
+
+pub open_ge : (n : ℕ) (lead : Lead) → n ≤ open_len n lead
+unfolding open_len
+open_ge n lead = omega (arith, wide-le n)
+
+pub open_wide : (n : ℕ) (lead : Lead) → 1 + wide n ≤ open_len n lead
+unfolding open_len
+open_wide n lead = omega arith
+
+-- What `number` answers.
+pub counted-some : (lead : Lead) {x : Option ℕ} {k : ℕ} → x ≡ number_of lead → x ≡ Some k → counted (number_of lead) ≡ k
+unfolding counted
+counted-some lead e f = rw (sym e ∙ f) refl
 
 -- What `opening_len` computes.
-numbered_is : (v : Value) → (bit_and (value_mask v) 6 ≡ 0 → numbered (value_mask v) ≡ false) × ((bit_and (value_mask v) 6 ≡ 0 → ⊥) → numbered (value_mask v) ≡ true)
-unfolding value_mask field_mask numbered
-numbered_is (text []) = (λ e. refl, λ e. absurd (e refl))
-numbered_is (text (x ∷ xs)) = (λ e. absurd (omega arith), λ e. refl)
-numbered_is nothing = (λ e. refl, λ e. absurd (e refl))
-numbered_is (dictionary r) = (λ e. absurd (omega arith), λ e. refl)
+module _ (name : ℕ) (lead : Lead) {n : ℕ} (h : n ≡ wide name) {x : Option ℕ} (e : x ≡ number_of lead) where
+  pub open_plain : x ≡ None → n + 1 ≡ open_len name lead
+  unfolding open_len written_number
+  open_plain f = rw (sym e ∙ f) (omega arith)
 
-module _ {bit : ℕ} (b : IsBit bit) where
-  pub unnumbered : bit_and bit 6 ≡ 0 → numbered bit ≡ false
-  unnumbered = rw b.is at (numbered_is b.v).0
-
-  pub is-numbered : (bit_and bit 6 ≡ 0 → ⊥) → numbered bit ≡ true
-  is-numbered = rw b.is at (numbered_is b.v).1
-
-  module _ (name : ℕ) {n : ℕ} (h : n ≡ wide name) where
-    pub open_plain : bit_and bit 6 ≡ 0 → 1 + n ≡ open_len name bit
-    unfolding open_len
-    open_plain e = rw (unnumbered e) (omega arith)
-
-    pub open_numbered : (bit_and bit 6 ≡ 0 → ⊥) → 1 + n + 2 ≡ open_len name bit
-    unfolding open_len
-    open_numbered e = rw (is-numbered e) (omega arith)
+  pub open_numbered : {k : ℕ} → x ≡ Some k → n + 3 ≡ open_len name lead
+  unfolding open_len written_number word16_bytes
+  open_numbered f = rw (sym e ∙ f) (omega arith)
 
 -- WRITING.
 -- The bytes of a 16-bit number, low byte first.
@@ -147,42 +147,38 @@ pub field-some : (b : List ℕ) (at : ℕ) (t : List ℕ) {c d : List ℕ} → (
 unfolding word16_bytes
 field-some b at t {c} {d} h p q = q ∙ ap (λ z. sets z (at + 2) t) p ∙ sets-append b at (word16_bytes (length t)) t ∙ ap (sets b at) (sym (field-full t h))
 
-pub map-plain : (n bit : ℕ) → n ≡ 0 → bit ≡ map_no n bit
+pub map-plain : (n : ℕ) (lead : Lead) → n ≡ 0 → lead_bit lead ≡ map_no n lead
 unfolding map_no
-map-plain n bit h = rw (eq-eqb n 0 h) (omega arith)
+map-plain n lead h = rw (eq-eqb n 0 h) (omega arith)
 
-named-bit : (v : Value) → bit_or (value_mask v) 1 ≡ 1 + value_mask v
-unfolding value_mask field_mask
-named-bit (text []) = refl
-named-bit (text (x ∷ xs)) = refl
-named-bit nothing = refl
-named-bit (dictionary r) = refl
+named-bit : (lead : Lead) → bit_or (lead_bit lead) 1 ≡ 1 + lead_bit lead
+unfolding lead_bit
+named-bit Empty = refl
+named-bit Nothing = refl
+named-bit (Text n) = refl
+named-bit (Dictionary n) = refl
 
-pub map-named : (n : ℕ) {bit : ℕ} → IsBit bit → (n ≡ 0 → ⊥) → bit_or bit 1 ≡ map_no n bit
+pub map-named : (n : ℕ) (lead : Lead) → (n ≡ 0 → ⊥) → bit_or (lead_bit lead) 1 ≡ map_no n lead
 unfolding map_no
-map-named n {bit} b h = rw (ne_eqb n 0 h) (rw b.is at (named-bit b.v))
+map-named n lead h = rw (ne_eqb n 0 h) (named-bit lead)
 
 -- The map byte, the name and the number, one behind the other.
-map-no : (n : List ℕ) (bit : ℕ) → map_no (length n) bit ≡ field_mask 1 n + bit
+map-no : (n : List ℕ) (lead : Lead) → map_no (length n) lead ≡ field_mask 1 n + lead_bit lead
 unfolding map_no field_mask
-map-no [] bit = refl
-map-no (x ∷ xs) bit = rw (ne_eqb (suc (length xs)) 0 (λ e. omega arith)) refl
+map-no [] lead = refl
+map-no (x ∷ xs) lead = rw (ne_eqb (suc (length xs)) 0 (λ e. omega arith)) refl
 
-module _ (b : List ℕ) (at : ℕ) (t : List ℕ) {bit : ℕ} (g : IsBit bit) (count : ℕ) {m : ℕ} {c : List ℕ} (e : m ≡ map_no (length t) bit) (p : c ≡ sets (put b at m) (at + 1) (field_bytes t)) where
-  begun : c ≡ sets b at ((field_mask 1 t + bit) ∷ field_bytes t)
-  begun = p ∙ ap (λ z. sets (put b at z) (at + 1) (field_bytes t)) (e ∙ map-no t bit) ∙ rw add-one refl
+module _ (b : List ℕ) (at : ℕ) (t : List ℕ) (lead : Lead) {m : ℕ} {c : List ℕ} (e : m ≡ map_no (length t) lead) (p : c ≡ sets (put b at m) (at + 1) (field_bytes t)) {x : Option ℕ} (f : x ≡ number_of lead) where
+  begun : c ≡ sets b at ((field_mask 1 t + lead_bit lead) ∷ field_bytes t)
+  begun = p ∙ ap (λ z. sets (put b at z) (at + 1) (field_bytes t)) (e ∙ map-no t lead) ∙ rw add-one refl
 
-  pub opening-plain : bit_and bit 6 ≡ 0 → c ≡ sets b at (opening t bit count)
-  unfolding opening number
-  opening-plain h = begun ∙ rw (unnumbered g h, append-nil (field_bytes t)) refl
+  pub opening-plain : x ≡ None → c ≡ sets b at (opening t lead)
+  unfolding opening written_number
+  opening-plain h = begun ∙ rw (sym f ∙ h, append-nil (field_bytes t)) refl
 
-  pub opening-numbered : (bit_and bit 6 ≡ 0 → ⊥) → {k : ℕ} {d : List ℕ} → k ≡ wide (length t) → d ≡ sets c (at + 1 + k) (word16_bytes count) → d ≡ sets b at (opening t bit count)
-  unfolding opening number
-  opening-numbered h {k} {d} w q =
-      let x = (field_mask 1 t + bit) ∷ field_bytes t in
+  pub opening-numbered : {count : ℕ} → x ≡ Some count → {k : ℕ} {d : List ℕ} → k ≡ wide (length t) → d ≡ sets c (at + 1 + k) (word16_bytes count) → d ≡ sets b at (opening t lead)
+  unfolding opening written_number
+  opening-numbered {count} h {k} {d} w q =
+      let x = (field_mask 1 t + lead_bit lead) ∷ field_bytes t in
       let l : at + 1 + k ≡ at + length x = omega (arith, field-length t) in
-      q ∙ ap (λ z. sets c z (word16_bytes count)) l ∙ ap (λ z. sets z (at + length x) (word16_bytes count)) begun ∙ sets-append b at x (word16_bytes count) ∙ rw (is-numbered g h) refl
-
-pub open_wide : (n bit : ℕ) → 1 + wide n ≤ open_len n bit
-unfolding open_len
-open_wide n bit = omega arith
+      q ∙ ap (λ z. sets c z (word16_bytes count)) l ∙ ap (λ z. sets z (at + length x) (word16_bytes count)) begun ∙ sets-append b at x (word16_bytes count) ∙ rw (sym f ∙ h) refl

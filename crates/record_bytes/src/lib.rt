@@ -7,16 +7,45 @@ ghost use Rattle.scan.specs.Sets.{part};
 ghost use Rattle.rules.specs.Sheet.{word16_bytes, field_bytes};
 ghost use Rattle.sheet.specs.Name.{asked};
 ghost use Rattle.record_bytes.specs.Moves.{Arranged};
-ghost use Rattle.record_bytes.specs.Opening.{wide, open_len, opening, map_no, IsBit, Opens};
+ghost use Rattle.record_bytes.specs.Opening.{wide, lead_bit, number_of, open_len, opening, map_no, Opens};
 
 use sheet::Name;
-use sheet::head::{DICTIONARY, NAME, TEXT};
+use sheet::head::{DICTIONARY, NAME, NONE, TEXT};
 
-// What stands of a value before its own bytes: its bit of the map byte, and the number that follows the name, a text's length or how many records a dictionary has.
+// What stands of a value before its own bytes, by its kind: a bit of the map byte, which the empty text has not, and the number that follows the name,
+// a text's length or how many records a dictionary has.
 #[derive(Clone, Copy, Debug, PartialEq, Eq)]
-pub struct Lead {
-    pub bit: u8,
-    pub count: usize,
+pub enum Lead {
+    Empty,
+    Nothing,
+    Text(usize),
+    Dictionary(usize),
+}
+
+impl Lead {
+    // Its bit of the map byte.
+    #[tactic(auto, unfolding(crate::specs::Opening::lead_bit))]
+    fn bit(self) -> u8
+        ensures { result ≡ lead_bit self }
+    {
+        match self {
+            Lead::Empty => 0,
+            Lead::Nothing => NONE,
+            Lead::Text(_) => TEXT,
+            Lead::Dictionary(_) => DICTIONARY,
+        }
+    }
+
+    // The number that follows the name.
+    #[tactic(auto, unfolding(crate::specs::Opening::number_of))]
+    fn number(self) -> Option<usize>
+        ensures { result ≡ number_of self }
+    {
+        match self {
+            Lead::Text(n) | Lead::Dictionary(n) => Some(n),
+            Lead::Empty | Lead::Nothing => None,
+        }
+    }
 }
 
 // How many bytes a field takes, with its length.
@@ -30,15 +59,15 @@ fn sized(n: usize) -> usize
 
 // How many bytes of a record stand before its text or its records.
 #[tactic(auto, using(crate::specs::Opening::wide_ge))]
-pub fn opening_len(name: usize, bit: u8) -> usize
-    requires { (name ≤ 65535) × IsBit bit }
-    ensures { result ≡ open_len name bit }
+pub fn opening_len(name: usize, lead: Lead) -> usize
+    requires { name ≤ 65535 }
+    ensures { result ≡ open_len name lead }
 {
     let n = sized(name);
-    if bit & (TEXT | DICTIONARY) != 0 {
-        return 1 + n + 2;
+    match lead.number() {
+        None => n + 1,
+        Some(_) => n + 3,
     }
-    1 + n
 }
 
 // Writes a 16-bit number, low byte first.
@@ -76,24 +105,25 @@ fn put_field(buf: &mut [u8], at: usize, name: Name<'_>)
 }
 
 // The map byte of a record.
-fn map_of(name: usize, bit: u8) -> u8
-    requires { IsBit bit }
-    ensures { result ≡ map_no name bit }
+fn map_of(name: usize, lead: Lead) -> u8
+    ensures { result ≡ map_no name lead }
 {
+    let bit = lead.bit();
     if name == 0 { bit } else { bit | NAME }
 }
 
 // Writes a record up to its text or its records.
 #[tactic(auto, using(crate::specs::Opening::open_wide))]
 pub fn put_opening(buf: &mut [u8], at: usize, name: Name<'_>, lead: Lead)
-    requires { Opens buf.old at (length (asked name)) lead.bit lead.count }
-    ensures { buf.new ≡ sets buf.old at (opening (asked name.entry) lead.bit lead.count) }
+    requires { Opens buf.old at (length (asked name)) lead }
+    ensures { buf.new ≡ sets buf.old at (opening (asked name.entry) lead) }
 {
     let len = name.len();
-    buf[at] = map_of(len, lead.bit);
+    buf[at] = map_of(len, lead);
     put_field(buf, at + 1, name);
-    if lead.bit & (TEXT | DICTIONARY) != 0 {
-        put_number(buf, at + 1 + sized(len), lead.count);
+    match lead.number() {
+        None => {}
+        Some(n) => put_number(buf, at + 1 + sized(len), n),
     }
 }
 

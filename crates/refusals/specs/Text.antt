@@ -1,6 +1,6 @@
 -- The text of a refusal.
 use Rattle.std.specs.Prelude.{◌≡◌, refl, List, [], ◌∷◌, ◌++◌, ℕ, ◌+◌, ◌/◌, ◌%◌, ◌≤◌, ◌<◌, length, take}
-use Rattle.std.proofs.Common.{sym, ap, ◌∙◌, arith, length-take-le, le-ltb, lt-ltb}
+use Rattle.std.proofs.Common.{sym, ap, ◌∙◌, arith, le-ltb, lt-ltb}
 use Rattle.std.proofs.lemmas.List.Edits.{sets}
 use Rattle.std.proofs.Math.Seq.{length-sets}
 use Rattle.rules.specs.Answer.{refused}
@@ -38,9 +38,3 @@ refusal-one k h l e₁ e₂ = let z : decimal k ≡ (48 + k) ∷ [] = rw (lt-ltb
 pub refusal-two : (k : ℕ) {o o₁ o₂ : List ℕ} → 10 ≤ k → 11 ≤ length o → o₁ ≡ sets o 0 (bytes "refused ") → o₂ ≡ sets o₁ 8 ((48 + k / 10) ∷ (48 + k % 10) ∷ 10 ∷ []) → Shows (shown (refused k)) o o₂ 11
 unfolding shown decimal
 refusal-two k h l e₁ e₂ = let z : decimal k ≡ (48 + k / 10) ∷ (48 + k % 10) ∷ [] = rw (le-ltb k 10 h, decimal) refl in refusal {d = (48 + k / 10) ∷ (48 + k % 10) ∷ 10 ∷ []} l e₁ e₂ (omega arith) refl (ap (λ x. bytes "refused " ++ (x ++ bytes "\n")) (sym z))
-
-pub leaves : {t o o₂ o₃ : List ℕ} {n : ℕ} → Shows t o o₂ n → o₃ ≡ padded (length o₂) (take n o₂) → Leaves t o o₃ n
-leaves {o₂ = o₂} {n = n} s e = record {
-  long = ap length (sym s.is) ∙ length-take-le n o₂ (omega (arith, s.fits, s.size));
-  is = (λ i. padded (sym s.size i) (sym s.is i)) ∙ sym e;
-}

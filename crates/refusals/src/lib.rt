@@ -14,10 +14,10 @@ fn put_text(number: u8, out: &mut [u8]) -> usize
     buffers::store(out, 0, b"refused ");
     let one_digit = number < 10;
     if one_digit {
-        buffers::store(out, 8, &[48 + number, b'\n']);
+        buffers::store(out, 8, &[b'0' + number, b'\n']);
         return 10;
     }
-    buffers::store(out, 8, &[48 + number / 10, 48 + number % 10, b'\n']);
+    buffers::store(out, 8, &[b'0' + number / 10, b'0' + number % 10, b'\n']);
     11
 }
 

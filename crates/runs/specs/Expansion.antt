@@ -31,67 +31,73 @@ use Rattle.runs.specs.declared.expansion_call.Expanded.{Expanded}
 use Rattle.arguments.specs.Given.{given, given-then, GoodArguments, good-given}
 
 -- A call with the result a leaves a text and a sheet at the starts of its buffers c and m.
-pub record Leaves (a : Answer (List ℕ × Records)) (c m : List ℕ) (len sheet : ℕ) : Type 0 where
+pub record Results (a : Answer (List ℕ × Records)) (c m : List ℕ) (len sheet : ℕ) : Type 0 where
   pub records : Records
   pub says : a ≡ accepted (take len c, records)
   pub sheet-is : take sheet m ≡ encode records
   pub fits : len ≤ length c
   pub sheet-fits : sheet ≤ length m
 
--- What expanding t from the sheet z comes to, where the writer begins at the start of a buffer.
-module _ {v : View} {t z : List ℕ} {out : MutBor (List ℕ)} {w w₂ : Writer} (b : Begins out Output w) {left : MutBor (List ℕ)} {L : ℕ} {s s₂ : SheetBuffer} (S : Starts left L z s.records.now) {r : Result Bool Refusal} (E : Expands v t w w₂ s s₂ r) where
+-- The text t is expanded for the sheet z: the results stand at the starts of the buffers, and each step is whole or not; or it is refused.
+pub record ExpandsFrom (v : View) (t z out out₂ left left₂ : List ℕ) (r : Result Expanded Refusal) : Type 0 where
+  pub out-size : length out₂ ≡ length out
+  pub left-size : length left₂ ≡ length left
+  pub is : MatchResult r (λ e. Results (expanded v (limit (length left)) (length out) (records_of z) t) out₂ left₂ e.len e.sheet × (all_whole (expansion v (records_of z) t) ≡ e.whole)) (λ k. expanded v (limit (length left)) (length out) (records_of z) t ≡ refused (number k))
+
+-- LAWS. The ways through it. The writer begins at the start of its buffer, and the sheet stands at the start of its own; c, m: the buffers, when they are let go.
+module _ {v : View} {t z : List ℕ} {out : MutBor (List ℕ)} {w w₂ : Writer} (b : Begins out Output w) {left : MutBor (List ℕ)} {L : ℕ} (q : L ≡ limit (length left.now)) {s s₂ : SheetBuffer} (S : Starts left L z s.records.now) {r : Result Bool Refusal} (E : Expands v t w w₂ s s₂ r) {c m : List ℕ} (o : c ≡ w₂.out.now) (l : m ≡ s₂.records.now.bytes.now) where
   abbrev Trace : Steps Records
   Trace = expansion v (records_of z) t
 
   abbrev Later : Answer (List ℕ) → Answer (List ℕ × Records)
   Later a = ◌>>=◌ {B = List ℕ × Records} a (λ o. accepted (o, final Trace))
 
-  in_writing : expanded v L (length out.now) (records_of z) t ≡ Later (write 11 (length out.now) (guarded sheet_length L Trace))
+  in_writing : expanded v (limit (length left.now)) (length out.now) (records_of z) t ≡ Later (write 11 (length out.now) (guarded sheet_length L Trace))
   unfolding expanded
-  in_writing = limited-guarded sheet_length L 11 Trace (length out.now)
+  in_writing = ap (λ k. expanded v k (length out.now) (records_of z) t) (sym q) ∙ limited-guarded sheet_length L 11 Trace (length out.now)
 
   wrote : Wrote (guarded sheet_length L Trace) w w₂ r
   wrote = rw (S.limits, S.bytes) at E.wrote
 
-  pub expanded-stops : {k : Refusal} → r ≡ Err k → expanded v L (length out.now) (records_of z) t ≡ refused (number k)
+  out_size : length c ≡ length out.now
+  out_size = ap length o ∙ wrote.emits.size ∙ ap (λ x. length x.now) b.same
+
+  left_size : length m ≡ length left.now
+  left_size = ap length l ∙ E.over.over.long ∙ S.long
+
+  pub from-stopped : {k : Refusal} → r ≡ Err k → {p : Result Expanded Refusal} → p ≡ Err k → ExpandsFrom v t z out.now c left.now m p
   unfolding first_bytes ◌>>=◌
-  expanded-stops {k} e =
+  from-stopped {k} e h =
       let d : Stands 11 (length out.now) (guarded sheet_length L Trace) w₂.out.now (Err k) = stands-no b wrote refl e refl in
-      in_writing ∙ ap Later d.is
+      rw h (record { out-size = out_size; left-size = left_size; is = in_writing ∙ ap Later d.is })
 
-  -- c, m: the buffers, when the writer and the sheet are let go; n: the sheet's length.
-  module _ {c m : List ℕ} (o : c ≡ w₂.out.now) (l : m ≡ s₂.records.now.bytes.now) where
-    pub expanded-size : length c ≡ length out.now
-    expanded-size = ap length o ∙ wrote.emits.size ∙ ap (λ x. length x.now) b.same
-
-    pub left-size : length m ≡ length left.now
-    left-size = ap length l ∙ E.over.over.long ∙ S.long
-
-    module _ {x : Bool} (e : r ≡ Ok x) where
-      goes : (all_whole Trace ≡ x) × (sheet_in s₂ ≡ final Trace)
-      goes = rw S.bytes at (rw e at E.goes)
-
-      pub expanded-whole : all_whole Trace ≡ x
-      expanded-whole = goes.0
-
-      pub expanded-goes : {n : ℕ} → n ≡ s₂.records.now.len → Leaves (expanded v L (length out.now) (records_of z) t) c m w₂.at n
-      unfolding first_bytes ◌>>=◌
-      expanded-goes {n} j =
-          let d : Stands 11 (length out.now) (guarded sheet_length L Trace) c (Ok w₂.at) = stands-ok b wrote o e in
-          let k = s₂.records.now in
+  -- n: the sheet's length.
+  pub from-done : {x : Bool} → r ≡ Ok x → {n : ℕ} → n ≡ s₂.records.now.len → ExpandsFrom v t z out.now c left.now m (Ok (record { len = w₂.at; sheet = n; whole = x }))
+  unfolding first_bytes ◌>>=◌
+  from-done {x} e {n} j =
+      let d : Stands 11 (length out.now) (guarded sheet_length L Trace) c (Ok w₂.at) = stands-ok b wrote o e in
+      let g : (all_whole Trace ≡ x) × (sheet_in s₂ ≡ final Trace) = rw S.bytes at (rw e at E.goes) in
+      let k = s₂.records.now in
+      record {
+        out-size = out_size;
+        left-size = left_size;
+        is = (
           record {
             records = final Trace;
             says = in_writing ∙ ap Later d.is;
-            sheet-is = ap (take n) l ∙ ap (λ x. take x k.bytes.now) j ∙ s₂.sheet.written ∙ ap encode goes.1;
+            sheet-is = ap (take n) l ∙ ap (λ x. take x k.bytes.now) j ∙ s₂.sheet.written ∙ ap encode g.1;
             fits = omega (arith, d.fits, d.size);
-            sheet-fits = omega (arith, j, k.fits, k.room, ap length l);
-          }
+            sheet-fits = omega (arith, j, k.fits, ap length l);
+          },
+          g.0,
+        );
+      }
 
 -- THE CALL, before its buffers are cleared: the results stand at their starts, or it is refused.
 pub record ExpandsText (bundle text sheet out out₂ left left₂ : List ℕ) (r : Result Expanded Refusal) : Type 0 where
   pub out-size : length out₂ ≡ length out
   pub left-size : length left₂ ≡ length left
-  pub is : MatchResult r (λ e. Leaves (preprocess_typst_result bundle text sheet (length out) (length left)) out₂ left₂ e.len e.sheet) (λ k. preprocess_typst_result bundle text sheet (length out) (length left) ≡ refused (number k))
+  pub is : MatchResult r (λ e. Results (preprocess_typst_result bundle text sheet (length out) (length left)) out₂ left₂ e.len e.sheet) (λ k. preprocess_typst_result bundle text sheet (length out) (length left) ≡ refused (number k))
 
 module _ (b t z : List ℕ) (n l : ℕ) where
   -- What follows the arguments. There is no folder: the empty one keeps the rules.
@@ -106,25 +112,22 @@ module _ (b t z : List ℕ) (n l : ℕ) where
   unfolding ◌>>=◌
   judged h = as_given ∙ ap (λ x. x >>= Then) h
 
-  in-reading : (f : GoodArguments b [] t z (limit l)) → preprocess_typst_result b t z n l ≡ expanded (view (entries_of b)) (limit l) n (records_of z) t
+  in-reading : GoodArguments b [] t z (limit l) → preprocess_typst_result b t z n l ≡ expanded (view (entries_of b)) (limit l) n (records_of z) t
   unfolding ◌>>=◌
   in-reading f = as_given ∙ ap (λ x. x >>= Then) (good-given f)
 
-pub expansion-refused : {b t z o l₀ : List ℕ} {L : ℕ} → L ≡ limit (length l₀) → {k : Refusal} → given b [] t z L ≡ refused (number k) → {r : Result Expanded Refusal} → r ≡ Err k → ExpandsText b t z o o l₀ l₀ r
-expansion-refused {b} {t} {z} {o} {l₀} q h e = rw e (record { out-size = refl; left-size = refl; is = judged b t z (length o) (length l₀) (rw q at h) })
+pub expansion-refused : {b t z o l : List ℕ} {k : Refusal} → given b [] t z (limit (length l)) ≡ refused (number k) → {r : Result Expanded Refusal} → r ≡ Err k → ExpandsText b t z o o l l r
+expansion-refused {b} {t} {z} {o} {l} h e = rw e (record { out-size = refl; left-size = refl; is = judged b t z (length o) (length l) h })
 
--- What the sheet's buffer is asked for.
-pub sheet-room : (z l : List ℕ) {L : ℕ} → L ≡ limit (length l) → length z ≤ L → (length z ≤ L) × (L ≤ length l) × (L ≤ 65535)
-unfolding limit
-sheet-room z l q h = (h, omega arith, omega arith)
+pub expansion-run : {b t z o c l m : List ℕ} → GoodArguments b [] t z (limit (length l)) → {r : Result Expanded Refusal} → ExpandsFrom (view (entries_of b)) t z o c l m r → ExpandsText b t z o c l m r
+expansion-run {b} {t} {z} {o} {c} {l} {m} f {r} E = record { out-size = E.out-size; left-size = E.left-size; is = at r E.is }
+  where
+    a : Answer (List ℕ × Records)
+    a = expanded (view (entries_of b)) (limit (length l)) (length o) (records_of z) t
 
-module _ {b t z : List ℕ} {left : MutBor (List ℕ)} {L : ℕ} (q : L ≡ limit (length left.now)) (f₀ : GoodArguments b [] t z L) {out : MutBor (List ℕ)} {w w₂ : Writer} (B : Begins out Output w) {s s₂ : SheetBuffer} (S : Starts left L z s.records.now)
-    {r : Result Bool Refusal} (E : Expands (view (entries_of b)) t w w₂ s s₂ r) {c m : List ℕ} (o : c ≡ w₂.out.now) (l : m ≡ s₂.records.now.bytes.now) where
-  says : preprocess_typst_result b t z (length out.now) (length left.now) ≡ expanded (view (entries_of b)) L (length out.now) (records_of z) t
-  says = in-reading b t z (length out.now) (length left.now) (rw q at f₀) ∙ ap (λ k. expanded (view (entries_of b)) k (length out.now) (records_of z) t) (sym q)
+    says : preprocess_typst_result b t z (length o) (length l) ≡ a
+    says = in-reading b t z (length o) (length l) f
 
-  pub expansion-stopped : {k : Refusal} → r ≡ Err k → {p : Result Expanded Refusal} → p ≡ Err k → ExpandsText b t z out.now c left.now m p
-  expansion-stopped e h = rw h (record { out-size = expanded-size B S E o l; left-size = left-size B S E o l; is = says ∙ expanded-stops B S E e })
-
-  pub expansion-done : {n : ℕ} → n ≡ s₂.records.now.len → {x : Bool} → r ≡ Ok x → ExpandsText b t z out.now c left.now m (Ok (record { len = w₂.at; sheet = n }))
-  expansion-done j e = record { out-size = expanded-size B S E o l; left-size = left-size B S E o l; is = rw says (expanded-goes B S E o l e j) }
+    at : (r : Result Expanded Refusal) → MatchResult r (λ e. Results a c m e.len e.sheet × (all_whole (expansion (view (entries_of b)) (records_of z) t) ≡ e.whole)) (λ k. a ≡ refused (number k)) → MatchResult r (λ e. Results (preprocess_typst_result b t z (length o) (length l)) c m e.len e.sheet) (λ k. preprocess_typst_result b t z (length o) (length l) ≡ refused (number k))
+    at (Ok e) h = rw says h.0
+    at (Err k) h = says ∙ h

@@ -4,6 +4,8 @@ use Rattle.std.specs.Prelude.{◌≡◌, List, ℕ, ◌≤◌, length, take}
 use Rattle.std.proofs.Common.{◌∙◌, arith, ap}
 use Rattle.std.proofs.lemmas.List.Edits.{sets}
 use Rattle.buffers.specs.Laws.{stored-first}
+use Rattle.rules.specs.Calls.{limit}
+use Rattle.sheet.specs.Records.{KeepsLayout}
 use Rattle.binding.specs.declared.buffer.RecordBuffer.{RecordBuffer}
 use Rattle.binding.specs.Buffer.{bytes_in}
 
@@ -13,7 +15,14 @@ pub record Starts (left : MutBor (List ℕ)) (limit : ℕ) (z : List ℕ) (b : R
   pub long : length b.bytes.now ≡ length left.now
   pub limits : b.limit ≡ limit
   pub bytes : bytes_in b ≡ z
+  pub layout : KeepsLayout (bytes_in b)
+  pub within : b.len ≤ b.limit
 
 -- LAWS.
 pub stored-sheet : (l : List ℕ) {o v z : List ℕ} → o ≡ sets l 0 v → v ≡ z → length z ≤ length l → take (length v) o ≡ z
 stored-sheet l {v = v} e q h = ap (take (length v)) e ∙ stored-first l v (omega (arith, ap length q)) ∙ q
+
+-- What the sheet's buffer is asked for.
+pub sheet-room : (z l : List ℕ) {L : ℕ} → L ≡ limit (length l) → length z ≤ limit (length l) → (length z ≤ L) × (L ≤ length l) × (L ≤ 65535)
+unfolding limit
+sheet-room z l q h = (omega (arith, q, h), omega arith, omega arith)

@@ -30,7 +30,6 @@ fn body(text: &[u8], start: usize, len: usize) -> Option<Range>
 
 // A field behind its length of 8 bits.
 pub fn short_field(text: &[u8], at: usize) -> Option<Range>
-    requires { at ≤ length text.now }
     ensures { FieldAt text.now (field byte) at result }
 {
     if text.len() <= at {
@@ -41,10 +40,9 @@ pub fn short_field(text: &[u8], at: usize) -> Option<Range>
 
 // A field behind its length of 16 bits.
 pub fn long_field(text: &[u8], at: usize) -> Option<Range>
-    requires { at ≤ length text.now }
     ensures { FieldAt text.now (field word16) at result }
 {
-    if text.len() - at < 2 {
+    if text.len().saturating_sub(at) < 2 {
         return None;
     }
     body(text, at + 2, word(text, at))

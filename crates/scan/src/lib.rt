@@ -4,15 +4,30 @@
 ghost use Rattle.std.specs.Prelude.{◌≡◌, ◌+◌, ◌≤◌, length, take, drop};
 ghost use Rattle.rules.specs.Reader.{all, same};
 ghost use Rattle.rules.specs.Bytes.{ascii, blank, letter, word};
-ghost use Rattle.scan.specs.Sets.{member, byte_is, not_byte, Spans, Sees, Starts, Skips};
+ghost use Rattle.scan.specs.Sets.{member, part, byte_is, not_byte, Within, Spans, Sees, Starts, Skips};
 
 pub mod fields;
+mod read;
+mod text;
+
+pub use read::Read;
+pub use text::Text;
 
 // A part of a text, from a place up to another.
 #[derive(Clone, Copy, Debug, PartialEq, Eq)]
 pub struct Range {
     pub from: usize,
     pub to: usize,
+}
+
+impl Range {
+    // This part of a text.
+    pub fn of(self, text: &[u8]) -> &[u8]
+        requires { Within text.now self }
+        ensures { result.now ≡ part text.now self.from self.to }
+    {
+        &text[self.from..self.to]
+    }
 }
 
 // The sets of bytes that are scanned for; `member` of specs/Sets says what each holds.

@@ -1,43 +1,18 @@
--- How many records stand before a place.
-use Rattle.std.specs.Prelude.{◌≡◌, List, ℕ, suc, ◌+◌, ◌≤◌, ◌<◌, length}
-use Rattle.std.proofs.Common.{arith}
-use Rattle.rules.specs.Sheet.{Value, Records, end, rec, encode, count}
-use Rattle.sheet.specs.Parts.{Part}
-use Rattle.sheet.specs.Items.{At}
+-- How many records a walk gives.
+use Rattle.std.specs.Prelude.{◌≡◌, List, [], ◌∷◌, ℕ, length, None}
+use Rattle.std.specs.Iterator.{Yields, Drains}
+use Rattle.std.proofs.Common.{sym, ap, arith}
+use Rattle.rules.specs.Sheet.{Records, count}
+use Rattle.sheet.specs.Walk.{WalksOver, Walks}
+use Rattle.sheet.specs.declared.head.Item.{Item}
+use Rattle.sheet.specs.declared.lookup.Walk.{Walk}
 
--- k records stand before i.
-pub record Counting (s : List ℕ) (r : Records) (i k : ℕ) : Type 0 where
-  pub left : Records
-  pub part : Part s i (encode left) (length s)
-  pub sum : k + count left ≡ count r
-  pub few : k ≤ i
+module _ {s : List ℕ} {e : ℕ} where
+  yields-count : (xs : List (ℕ × Item)) {w : Walk} (t u : Walk) {r : Records} → WalksOver w s e r → Yields Walks w xs t → Walks t None u → length xs ≡ count r
+  unfolding Walks count
+  yields-count [] t u k y z = sym (ap count (z _ _ _ (rw y at k)))
+  yields-count (x ∷ xs) t u k y z = let m = y.1 _ _ _ k in omega (arith, ap count m.is, yields-count xs t u m.over y.2 z)
 
--- The next record of those.
-pub record Counted (s : List ℕ) (r : Records) (i k : ℕ) : Type 0 where
-  pub m : List ℕ
-  pub w : Value
-  pub q : Records
-  pub part : Part s i (encode (rec m w q)) (length s)
-  pub sum : k + suc (count q) ≡ count r
-
-pub count_next : {s : List ℕ} {r : Records} {i k : ℕ} → Counting s r i k → i < length s → Counted s r i k
-unfolding encode count
-count_next {s} {r} {i} {k} c h = go c.left c.part c.sum
-  where
-    go : (q : Records) → Part s i (encode q) (length s) → k + count q ≡ count r → Counted s r i k
-    go end p e = absurd (omega (arith, p.ends))
-    go (rec m w q) p e = record { m = m; w = w; q = q; part = p; sum = e }
-
-pub counted-at : {s : List ℕ} {r : Records} {i k : ℕ} → Counted s r i k → At s i
-counted-at {s} c = record { n = c.m; v = c.w; r = c.q; j = length s; part = c.part }
-
-pub count-on : {s : List ℕ} {r : Records} {i k e : ℕ} → Counting s r i k → (c : Counted s r i k) → Part s e (encode c.q) (length s) → i < e → Counting s r e (k + 1)
-count-on z c p h = record { left = c.q; part = p; sum = omega (arith, c.sum); few = omega (arith, z.few) }
-
-pub count-end : {s : List ℕ} {r : Records} {i k : ℕ} → Counting s r i k → length s ≤ i → k ≡ count r
-unfolding encode count
-count-end {s} {r} {i} {k} c h = go c.left c.part c.sum
-  where
-    go : (q : Records) → Part s i (encode q) (length s) → k + count q ≡ count r → k ≡ count r
-    go end p e = omega arith
-    go (rec m w q) p e = absurd (omega (arith, p.ends))
+  -- As many as it has left.
+  pub drains-count : {w : Walk} {r : Records} → WalksOver w s e r → (xs : List (ℕ × Item)) → Drains Walks w xs → length xs ≡ count r
+  drains-count k xs d = yields-count xs d.1.0 d.0 k d.1.1 d.1.2

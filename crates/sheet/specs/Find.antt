@@ -1,5 +1,5 @@
 -- Lookup in the bytes of a sheet: what a lookup answers, and a walk over a level.
-use Rattle.std.specs.Prelude.{◌≡◌, Bool, false, List, [], ℕ, ◌+◌, ◌≤◌, ◌<◌, length}
+use Rattle.std.specs.Prelude.{◌≡◌, Bool, false, List, [], ℕ, ◌+◌, ◌≤◌, length}
 use Rattle.std.proofs.Math.Path.{refl}
 use Rattle.std.proofs.Common.{sym, ap, ◌∙◌, true≢false, arith}
 use Rattle.std.proofs.Math.Bool.{true}
@@ -11,7 +11,7 @@ use Rattle.rules.specs.Sheet.{Value, text, nothing, dictionary, Records, end, re
 use Rattle.rules.proofs.Laws.Sheet.{good-parts, less-trans}
 use Rattle.sheet.specs.Parts.{Part, part-split, part_slice}
 use Rattle.sheet.specs.Heads.{shape_kind, shape_text}
-use Rattle.sheet.specs.Items.{At, Describes, Holding, Has, lead, inner, encode-join}
+use Rattle.sheet.specs.Items.{Describes, Holding, Has, lead, inner, encode-join}
 use Rattle.std.specs.declared.cmp.Ordering.{Ordering}
 use Rattle.std.specs.declared.cmp.Ordering.TheVariants.{Less, Equal, Greater}
 use Rattle.std.specs.Ordering.{nat_cmp}
@@ -19,10 +19,13 @@ use Rattle.std.specs.Cmp.Lexicographic.{slice_cmp}
 use Rattle.sheet.specs.Order.{order-less, order-yes, order-no}
 use Rattle.sheet.specs.declared.head.Kind.{Kind}
 use Rattle.sheet.specs.declared.head.Item.{Item}
+use Rattle.sheet.specs.declared.lookup.Walk.{Walk}
+use Rattle.sheet.specs.Walk.{WalksOver, Meets}
 use Rattle.sheet.specs.declared.lookup.Found.{Found}
 use Rattle.sheet.specs.declared.lookup.Found.TheVariants.{Nothing, Text, Dictionary}
 use Rattle.sheet.specs.declared.head.Kind.TheVariants.{Nothing as OfNothing, Text as OfText, Dictionary as OfDictionary}
 use Rattle.std.specs.Prelude.{Option as RustOption, Some, None}
+use Rattle.std.specs.Option.{unwrap_or}
 use Rattle.scan.specs.declared.Range.{Range}
 
 -- The bytes of some records.
@@ -40,11 +43,6 @@ Tells s v (Dictionary p n) = (d : Records) × (v ≡ dictionary d) × Part s p.f
 unfoldable pub Gives : List ℕ → Option Value → RustOption Found → Type 0
 Gives s x None = x ≡ none
 Gives s x (Some f) = (v : Value) × (x ≡ some v) × Tells s v f
-
--- There is such a value, or it is missing.
-pub record HasValue (s : List ℕ) (f : RustOption Found) : Type 0 where
-  pub x : Option Value
-  pub gives : Gives s x f
 
 pub gives_one : (s : List ℕ) (x : Option Value) {o : RustOption Found} → Gives s x o → {f : Found} → o ≡ Some f → (v : Value) × (x ≡ some v) × Tells s v f
 unfolding Gives
@@ -71,19 +69,20 @@ pub record Places (s t : List ℕ) (a b : ℕ) : Type 0 where
   pub text : part s a b ≡ t
 
 -- Where the text of each case stands: an empty part unless it is a text.
-pub places-text : {f : RustOption Found} {p : Range} → f ≡ Some (Text p) → (s : List ℕ) (x : Option Value) → Gives s x f → Places s (text_of x) p.from p.to
-unfolding Tells text_of
-places-text e s x w = let g = gives_one s x w e in let t = g.2 in record { on = omega (arith, t.2.ends); inside = t.2.inside; text = rw (g.1, t.1) (part_slice t.2) }
+pub places-text : (f : RustOption Found) {p : Range} → unwrap_or f Nothing ≡ Text p → (s : List ℕ) (x : Option Value) → Gives s x f → Places s (text_of x) p.from p.to
+unfolding Gives Tells text_of found_kind
+places-text None e s x g = let k : ◌≡◌ {A = ℕ} 1 2 = ap (λ y. found_kind (Some y)) e in absurd (omega (arith, k))
+places-text (Some y) e s x g = let t = rw e at g.2 in record { on = omega (arith, t.2.ends); inside = t.2.inside; text = rw (g.1, t.1) (part_slice t.2) }
 
-no_text : (x : Option Value) → (kind_of x ≡ 2 → ⊥) → text_of x ≡ []
-unfolding kind_of text_of
-no_text none h = refl
-no_text (some nothing) h = refl
-no_text (some (text t)) h = absurd (h refl)
-no_text (some (dictionary r)) h = refl
+no_text : (f : RustOption Found) → ((p : Range) → unwrap_or f Nothing ≡ Text p → ⊥) → (s : List ℕ) (x : Option Value) → Gives s x f → text_of x ≡ []
+unfolding Gives Tells text_of
+no_text None h s x g = rw g refl
+no_text (Some Nothing) h s x g = rw (g.1, g.2) refl
+no_text (Some (Text p)) h s x g = absurd (h p refl)
+no_text (Some (Dictionary p n)) h s x g = rw (g.1, g.2.1) refl
 
-pub places-none : {f g : RustOption Found} → f ≡ g → (found_kind g ≡ 2 → ⊥) → (s : List ℕ) (x : Option Value) → Gives s x f → Places s (text_of x) 0 0
-places-none {f} e h s x g = record { on = omega arith; inside = omega arith; text = sym (no_text x (λ k. h (ap found_kind (sym e) ∙ gives-kind s x f g ∙ k))) }
+pub places-none : (f : RustOption Found) → ((p : Range) → unwrap_or f Nothing ≡ Text p → ⊥) → (s : List ℕ) (x : Option Value) → Gives s x f → Places s (text_of x) 0 0
+places-none f h s x g = record { on = omega arith; inside = omega arith; text = sym (no_text f h s x g) }
 
 -- LAWS.
 -- A value of which the item o tells: its kind, its text, and its records.
@@ -189,61 +188,51 @@ get-no : (n : List ℕ) (v : Value) (q : Records) (name : List ℕ) → (slice_c
 unfolding get
 get-no n v q name h = rw (order-no n name h, get) refl
 
--- What is left of a level, where name is not among what was passed.
-pub record Seeking (s : List ℕ) (i e : ℕ) (r : Records) (name : List ℕ) : Type 0 where
-  pub left : Level s i e
-  pub same : get r name ≡ get left.r name
-
--- The next record of it.
-pub record Sought (s : List ℕ) (i e : ℕ) (r : Records) (name : List ℕ) : Type 0 where
-  pub n : List ℕ
-  pub v : Value
-  pub q : Records
+-- What the walk has left of a level, where name is not among what was passed.
+pub record Seeking (w : Walk) (s : List ℕ) (e : ℕ) (r : Records) (name : List ℕ) : Type 0 where
+  pub left : Records
   pub p : ℕ → Bool
   pub l : ℕ
-  pub part : Part s i (encode (rec n v q)) e
-  pub good : good_records (rec n v q) p l ≡ true
-  pub same : get r name ≡ get (rec n v q) name
+  pub over : WalksOver w s e left
+  pub good : good_records left p l ≡ true
+  pub same : get r name ≡ get left name
 
-pub seek_start : {s : List ℕ} {i e : ℕ} {name : List ℕ} (l : Level s i e) → Seeking s i e l.r name
-seek_start l = record { left = l; same = refl }
+pub seek_start : {w : Walk} {s : List ℕ} {i e : ℕ} {name : List ℕ} (l : Level s i e) → WalksOver w s e l.r → Seeking w s e l.r name
+seek_start l o = record { left = l.r; p = l.p; l = l.l; over = o; good = l.good; same = refl }
 
-pub sought : {s : List ℕ} {i e : ℕ} {r : Records} {name : List ℕ} → Seeking s i e r name → i < e → Sought s i e r name
-unfolding encode
-sought {s} {i} {e} {r} {name} k h = go k.left.r k.left.part k.left.good k.same
-  where
-    go : (q : Records) → Part s i (encode q) e → good_records q k.left.p k.left.l ≡ true → get r name ≡ get q name → Sought s i e r name
-    go end p g f = absurd (omega (arith, p.ends))
-    go (rec n v q) p g f = record { n = n; v = v; q = q; p = k.left.p; l = k.left.l; part = p; good = g; same = f }
+module _ {w : Walk} {s : List ℕ} {e : ℕ} {r : Records} {name : List ℕ} (k : Seeking w s e r name) where
+  pub seek_end : k.left ≡ end → Gives s (get r name) None
+  unfolding get Gives
+  seek_end z = rw z at k.same
 
-pub sought-at : {s : List ℕ} {i e : ℕ} {r : Records} {name : List ℕ} → Sought s i e r name → At s i
-sought-at {e = e} k = record { n = k.n; v = k.v; r = k.q; j = e; part = k.part }
+  module _ {i : ℕ} {o : Item} {x : Walk} (m : Meets s e k.left i o x) where
+    good : good_records (rec m.n m.v m.q) k.p k.l ≡ true
+    good = rw m.is at k.good
 
-pub seek_end : {s : List ℕ} {i e : ℕ} {r : Records} {name : List ℕ} → Seeking s i e r name → e ≤ i → Gives s (get r name) None
-unfolding encode get Gives
-seek_end {s} {i} {e} {r} {name} k h = go k.left.r k.left.part k.same
-  where
-    go : (q : Records) → Part s i (encode q) e → get r name ≡ get q name → Gives s (get r name) None
-    go end p f = f
-    go (rec n v q) p f = absurd (omega (arith, p.ends))
+    passed : get r name ≡ get (rec m.n m.v m.q) name
+    passed = rw m.is at k.same
 
-module _ {s : List ℕ} {i e : ℕ} {r : Records} {name : List ℕ} (k : Sought s i e r name) {a : List ℕ} {c : Ordering} (p : a ≡ k.n) (h : c ≡ slice_cmp nat_cmp a name) where
-  order_is : slice_cmp nat_cmp k.n name ≡ c
-  order_is = sym (h ∙ ap (λ z. slice_cmp nat_cmp z name) p)
+    module _ {c : Ordering} (h : c ≡ slice_cmp nat_cmp o.name.now name) where
+      order_is : slice_cmp nat_cmp m.n name ≡ c
+      order_is = sym (h ∙ ap (λ z. slice_cmp nat_cmp z name) m.told.name)
 
-  pub seek_found : (f : Found) → c ≡ Equal → Tells s k.v f → Gives s (get r name) (Some f)
-  unfolding Gives
-  seek_found f g w = (k.v, k.same ∙ get-yes k.n k.v k.q name (order_is ∙ g), w)
+      pub seek_found : (f : Found) → c ≡ Equal → ((v : Value) → Body s v o → Tells s v f) → Gives s (get r name) (Some f)
+      unfolding Gives
+      seek_found f a b = (m.v, passed ∙ get-yes m.n m.v m.q name (order_is ∙ a), b m.v (item_body m.told))
 
-  pub seek_passed : c ≡ Greater → Gives s (get r name) None
-  unfolding Gives
-  seek_passed g =
-      let w = good-parts k.n k.v k.q k.p k.l k.good in
-      let j : less name k.n ≡ true = (order-less k.n name).1 ∙ rw (order_is ∙ g) refl in
-      k.same ∙ get-no k.n k.v k.q name (λ z. other (sym g ∙ sym order_is ∙ z)) ∙ get-before k.q k.p k.l k.n name w.later w.order j
+      pub seek_passed : c ≡ Greater → Gives s (get r name) None
+      unfolding Gives
+      seek_passed a =
+          let p = good-parts m.n m.v m.q k.p k.l good in
+          let j : less name m.n ≡ true = (order-less m.n name).1 ∙ rw (order_is ∙ a) refl in
+          passed ∙ get-no m.n m.v m.q name (λ z. other (sym a ∙ sym order_is ∙ z)) ∙ get-before m.q k.p k.l m.n name p.later p.order j
 
-  pub seek_on : {i' : ℕ} → c ≡ Less → Part s i' (encode k.q) e → Seeking s i' e r name
-  seek_on g w = record {
-    left = record { r = k.q; p = k.p; l = k.l; part = w; good = (good-parts k.n k.v k.q k.p k.l k.good).later };
-    same = k.same ∙ get-no k.n k.v k.q name (λ z. unlike (sym g ∙ sym order_is ∙ z));
-  }
+      pub seek_on : c ≡ Less → Seeking x s e r name
+      seek_on a = record {
+        left = m.q;
+        p = k.p;
+        l = k.l;
+        over = m.over;
+        good = (good-parts m.n m.v m.q k.p k.l good).later;
+        same = passed ∙ get-no m.n m.v m.q name (λ z. unlike (sym a ∙ sym order_is ∙ z));
+      }

@@ -51,7 +51,7 @@ shape-back (text (x ∷ xs)) b = rw (field-read x xs b) refl
 shape-back nothing b = refl
 shape-back (dictionary r) b = rw (append_assoc, word16-read (count r) (encode r ++ b)) refl
 
-head-back : (n : List ℕ) (v : Value) (r : Records) (z : List ℕ) → head (encode (rec n v r) ++ z) ≡ some ((n, lead v), encode (join (inner v) r) ++ z)
+pub head-back : (n : List ℕ) (v : Value) (r : Records) (z : List ℕ) → head (encode (rec n v r) ++ z) ≡ some ((n, lead v), encode (join (inner v) r) ++ z)
 unfolding head encode byte pure bind ◌>>=◌
 head-back n v r z =
     rw (append_assoc, append_assoc, (map-byte n v).0, (map-byte n v).1, name-read n (value_bytes v ++ (encode r ++ z)))
@@ -74,13 +74,13 @@ pub record Describes (s : List ℕ) (i : ℕ) (n : List ℕ) (v : Value) (r : Re
   pub number : o.count ≡ count (inner v)
   pub rest : Part s o.next (encode (join (inner v) r)) j
 
-count-inner : (v : Value) → shape_count (lead v) ≡ count (inner v)
+pub count-inner : (v : Value) → shape_count (lead v) ≡ count (inner v)
 unfolding shape_count lead inner count
 count-inner (text t) = refl
 count-inner nothing = refl
 count-inner (dictionary r) = refl
 
-heads_same : (a b : List ℕ) (v w : Shape) (c d : List ℕ) → ◌≡◌ {A = Option ((List ℕ × Shape) × List ℕ)} (some ((a, v), c)) (some ((b, w), d)) → (a ≡ b) × (v ≡ w) × (c ≡ d)
+pub heads_same : (a b : List ℕ) (v w : Shape) (c d : List ℕ) → ◌≡◌ {A = Option ((List ℕ × Shape) × List ℕ)} (some ((a, v), c)) (some ((b, w), d)) → (a ≡ b) × (v ≡ w) × (c ≡ d)
 heads_same a b v w c d h =
     let e : ◌≡◌ {A = (List ℕ × Shape) × List ℕ} ((a, v), c) ((b, w), d) = cc in
     (ap (λ x. x.0.0) e, ap (λ x. x.0.1) e, ap (λ x. x.1) e)

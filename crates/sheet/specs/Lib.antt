@@ -1,8 +1,10 @@
 pub mod Parts
 pub mod Heads
 pub mod Items
+pub mod Unique
 pub mod Order
 pub mod Find
+pub mod Walk
 pub mod Look
 pub mod Count
 pub mod Bytes

@@ -6,7 +6,7 @@ ghost use Rattle.std.proofs.Math.Option.{Option};
 ghost use Rattle.scan.specs.Sets.{part};
 ghost use Rattle.rules.specs.Sheet.{Value, resolve, text_of};
 ghost use Rattle.sheet.specs.Name.{spelled, asked, asked_byte};
-ghost use Rattle.sheet.specs.Find.{Gives, HasValue};
+ghost use Rattle.sheet.specs.Find.{Gives};
 ghost use Rattle.sheet.specs.Records.{records_of, KeepsLayout};
 
 use lookup::{Found, find, text_place};
@@ -121,11 +121,10 @@ impl<'a> Sheet<'a> {
 
     // The text of what a lookup found; empty where it is no text (E1).
     pub fn found_text(&self, found: Option<Found>) -> &'a [u8]
-        requires { HasValue self.now found }
         ensures { (x : Option Value) → Gives self.now x found → result.now ≡ text_of x }
     {
         let place = text_place(found);
-        &self.bytes[place.from..place.to]
+        self.bytes.get(place.from..place.to).unwrap_or(&[])
     }
 
     // The text that a path is looked up as.

@@ -1,5 +1,5 @@
 // Walks over records: one by one, over what they hold, and to a name among those of a level.
-ghost use Rattle.std.specs.Prelude.{◌≡◌, List, ℕ};
+ghost use Rattle.std.specs.Prelude.{◌≡◌, List, ℕ, length};
 ghost use Rattle.std.specs.Ordering.{nat_cmp};
 ghost use Rattle.std.specs.Cmp.Lexicographic.{slice_cmp};
 ghost use Rattle.std.proofs.Math.Option.{Option};
@@ -45,25 +45,81 @@ pub fn skip(s: &[u8], at: usize, count: usize) -> usize
     i
 }
 
+// The records from a place on up to another, each with its place. What a record holds is passed over when the next one is asked for.
+#[derive(Drop)]
+pub struct Walk<'a> {
+    bytes: &'a [u8],
+    at: usize,
+    held: usize,
+    end: usize,
+}
+
+impl<'a> Walk<'a> {
+    ghost use Rattle.sheet.specs.Walk.{WalksOver};
+
+    // All of them.
+    pub fn all(bytes: &'a [u8]) -> Walk<'a>
+        ensures { (r : Records) → bytes.now ≡ encode r → WalksOver result bytes.now (length bytes.now) r }
+    {
+        Walk::over(
+            bytes,
+            Range {
+                from: 0,
+                to: bytes.len(),
+            },
+        )
+    }
+
+    // The records of a level.
+    pub fn over(bytes: &'a [u8], level: Range) -> Walk<'a>
+        ensures { (r : Records) → Part bytes.now level.from (encode r) level.to → WalksOver result bytes.now level.to r }
+    {
+        Walk {
+            bytes,
+            at: level.from,
+            held: 0,
+            end: level.to,
+        }
+    }
+}
+
+impl<'a> Iterator for Walk<'a> {
+    ghost use Rattle.sheet.specs.Walk.{CanWalk, Walks, walk_left};
+    ghost use Rattle.std.specs.Iterator.{at_most};
+
+    type Item = (usize, Item<'a>);
+
+    ghost can_next = { CanWalk };
+
+    ghost next_gives = { Walks };
+
+    ghost remaining = { λ w. at_most (walk_left w) };
+
+    fn next(&mut self) -> Option<(usize, Item<'a>)> {
+        let i = skip(self.bytes, self.at, self.held);
+        if self.end <= i {
+            return None;
+        }
+        let o = item(self.bytes, i);
+        self.at = o.next;
+        self.held = o.count;
+        Some((i, o))
+    }
+}
+
 // How many records stand in a sheet, not counting those inside dictionaries.
 pub fn count(s: &[u8]) -> usize
     requires { HasRecords s.now }
     ensures { (r : Records) → s.now ≡ encode r → result ≡ count r }
 {
-    let mut i: usize = 0;
-    let mut k: usize = 0;
-    while i < s.len() {
-        let o = item(s, i);
-        i = skip(s, o.next, o.count);
-        k += 1;
-    }
-    k
+    Walk::all(s).count()
 }
 
 // The order of a name and of one that is asked for.
 pub fn order(a: &[u8], b: Name<'_>) -> Ordering
     ensures { result ≡ slice_cmp nat_cmp a.now (asked b.entry) }
 {
+    // As `Iterator::cmp` it takes a fifth more instructions a lookup.
     for (x, y) in a.iter().zip(b.text()) {
         let o = x.cmp(&b.byte(*y));
         if o.is_ne() {
@@ -95,15 +151,13 @@ pub fn value(s: &[u8], o: Item<'_>) -> Found
 }
 
 // Looks a name up among the records of a level; the order of names ends the walk.
-pub(crate) fn find(s: &[u8], level: Range, name: Name<'_>) -> Option<Found>
+pub fn find(s: &[u8], level: Range, name: Name<'_>) -> Option<Found>
     requires { Level s.now level.from level.to }
     ensures { (l : Level s.now level.from level.to) → Gives s.now (get l.r (asked name.entry)) result }
 {
-    let mut i = level.from;
-    while i < level.to {
-        let o = item(s, i);
+    for (_, o) in Walk::over(s, level) {
         match order(o.name, name) {
-            Ordering::Less => i = skip(s, o.next, o.count),
+            Ordering::Less => {}
             Ordering::Equal => return Some(value(s, o)),
             Ordering::Greater => return None,
         }
@@ -112,13 +166,11 @@ pub(crate) fn find(s: &[u8], level: Range, name: Name<'_>) -> Option<Found>
 }
 
 // Where the text stands that a lookup found; an empty part where it found none (E1).
-pub(crate) fn text_place(found: Option<Found>) -> Range
+pub fn text_place(found: Option<Found>) -> Range
     ensures { (s : List ℕ) (x : Option Value) → Gives s x found → Places s (text_of x) result.from result.to }
 {
-    match found {
-        Some(Found::Text(text)) => text,
-        Some(Found::Dictionary { .. }) => Range { from: 0, to: 0 },
-        Some(Found::Nothing) => Range { from: 0, to: 0 },
-        None => Range { from: 0, to: 0 },
+    match found.unwrap_or(Found::Nothing) {
+        Found::Text(text) => text,
+        _ => Range { from: 0, to: 0 },
     }
 }

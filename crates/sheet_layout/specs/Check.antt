@@ -9,6 +9,7 @@ use Prim.Native.Nat.{ℕ, zero, suc, ◌-◌, ◌/◌, ◌≤◌, ◌<◌}
 use native.Mathlib.Omega.{arith}
 use Rattle.std.proofs.Math.ListN.{drop}
 use Rattle.std.proofs.lemmas.Bool.{lt-leb}
+use Rattle.std.specs.Cmp.{both_ways}
 use Rattle.scan.specs.Sets.{part}
 use Rattle.rules.specs.Reader.{all}
 use Rattle.rules.specs.Bytes.{ascii, word, name_byte, less}
@@ -21,7 +22,7 @@ use Rattle.std.specs.declared.cmp.Ordering.{Ordering}
 use Rattle.std.specs.Ordering.{nat_cmp, is_lt}
 use Rattle.std.specs.Cmp.Lexicographic.{slice_cmp}
 use Rattle.sheet.specs.Order.{order-less}
-use Rattle.sheet.specs.Records.{KeepsLayout}
+use Rattle.sheet.specs.Records.{Checked}
 use Rattle.std.specs.Borrow.{Bor}
 use Rattle.std.specs.Prelude.{Option as RustOption, Some, None}
 use Rattle.sheet_layout.specs.declared.Level.{Level}
@@ -101,19 +102,13 @@ EndsAt s i x (Some j) = (i ≤ j) × (j ≤ length s) × (x ≡ some (drop j s))
 -- The sheet of these bytes, or they break the layout.
 abbrev pub Checks : List ℕ → RustOption (List ℕ) → Type 0
 Checks s None = is_some (sheet_of s) ≡ false
-Checks s (Some x) = (x ≡ s) × KeepsLayout s
+Checks s (Some x) = (x ≡ s) × Checked s
 
 -- BOOLEANS.
-bool_eq : (a b : Bool) → (a ≡ true → b ≡ true) → (b ≡ true → a ≡ true) → a ≡ b
-bool_eq true true f g = refl
-bool_eq true false f g = sym (f refl)
-bool_eq false true f g = g refl
-bool_eq false false f g = refl
-
 -- The tests of one record and of those behind it, in either order.
 regroup : (a t f g b : Bool) → (((a && t) && f) && (g && b)) ≡ ((((a && b) && t) && g) && f)
 regroup a t f g b =
-    bool_eq _ _
+    both_ways _ _
     (λ h.
     let x = and_l ((a && t) && f) (g && b) h in
     let y = and_r ((a && t) && f) (g && b) h in

@@ -5,6 +5,7 @@ use Rattle.rules.specs.Bytes.{underscored}
 use Rattle.rules.specs.Sheet.{Lookup, text_of}
 use Rattle.rules.specs.Strings.{literal, plus, expression_round, expression}
 use Rattle.scan.specs.Sets.{part}
+use Rattle.scan.specs.declared.read.Read.{Read}
 use Rattle.string_ends.specs.declared.RoundStart.{RoundStart}
 use Rattle.string_ends.specs.declared.RoundStart.TheVariants.{Literal, Reference, Nothing}
 
@@ -36,16 +37,14 @@ Begins t (Reference i k) = (i ≤ k) × (k ≤ length t) × ((look : Lookup) →
 Begins t (Nothing i) = (look : Lookup) → IsRound look false t i []
 
 -- A round up to its `+`, read for every lookup, and a text taken, which is the round's where references are looked up: before it a, behind it z.
-pub record ReadsRound {A : Type 0} (takes : A → List ℕ → A → Type 0) (looks : A → Lookup → Type 0) (t : List ℕ) (found : Bool) (k : ℕ) (a z : A) : Type 0 where
+pub record ReadsRound {A : Type 0} (takes : A → List ℕ → A → Type 0) (looks : A → Lookup → Type 0) (t : List ℕ) (r : Read Bool) (a z : A) : Type 0 where
   pub text : Lookup → List ℕ
-  pub round : (look : Lookup) → IsRound look found t k (text look)
+  pub round : (look : Lookup) → IsRound look r.what t r.used (text look)
   pub took : List ℕ
   pub taken : takes a took z
   pub says : (look : Lookup) → looks a look → text look ≡ took
 
--- An expression, likewise.
-pub record ReadsExpression {A : Type 0} (takes : A → List ℕ → A → Type 0) (looks : A → Lookup → Type 0) (t : List ℕ) (a : A) (k : ℕ) (z : A) : Type 0 where
-  pub ends : (look : Lookup) → Ends (expression look t) t k
-  pub took : List ℕ
-  pub taken : takes a took z
-  pub says : (look : Lookup) → looks a look → (expression look t).0 ≡ took
+-- An expression, of which is taken what it comes to where references are looked up. It is read to its end, unless the text behind does not matter any more.
+pub record ReadsExpression {A : Type 0} (takes : A → List ℕ → A → Type 0) (looks : A → Lookup → Type 0) (done : A → Type 0) (t : List ℕ) (a : A) (k : ℕ) (z : A) : Type 0 where
+  pub ends : (done z → ⊥) → (look : Lookup) → Ends (expression look t) t k
+  pub taken : (look : Lookup) → looks a look → takes a (expression look t).0 z

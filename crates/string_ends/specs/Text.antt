@@ -1,22 +1,26 @@
 -- Literals and expressions at a place of a text: what they come to from there, and where they end.
-use Rattle.std.specs.Prelude.{◌≡◌, Bool, false, not, ◌&&◌, length, drop, get_or}
+use Rattle.std.specs.Prelude.{◌≡◌, Bool, false, not, ◌&&◌, eqb, length, drop, get_or}
 use Rattle.std.proofs.Math.Path.{refl, ap}
 use Rattle.std.proofs.Common.{sym, subst, ◌∙◌, true≢false, arith, add-one, length-drop, drop-cons, drop-drop, eq-eqb, ne_eqb}
 use mathlib.Core.List.{List, [], ◌∷◌, ◌++◌, append_assoc, append-nil}
 use Rattle.std.proofs.Math.Bool.{true}
 use Rattle.std.proofs.Math.Option.{none}
 use Prim.Native.Char.{Char, code}
-use Prim.Native.Nat.{ℕ, suc, ◌+◌, ◌-◌, ◌≤◌, ◌<◌}
+use Prim.Native.Nat.{ℕ, zero, suc, ◌+◌, ◌-◌, ◌≤◌, ◌<◌}
 use Rattle.std.proofs.Math.Numerals.{add-two}
 use Rattle.std.proofs.Math.ListN.{take, drop_of_length-le}
-use Rattle.rules.specs.Reader.{ret, if_r, ◌>>=◌, ◌>>◌, the, but, either, span, rounds, again, stop}
+use Rattle.rules.specs.Reader.{ret, if_r, ◌>>=◌, ◌>>◌, the, but, either, span, prefix, same, Turn, loop, rounds, again, stop}
+use Rattle.rules.proofs.Laws.Bool.{and_l, and_r, and_i}
+use Rattle.rules.proofs.Laws.Sheet.{same_refl}
+use Rattle.rules.proofs.Laws.Refusals.{Yields, yields_ret, yields_if, yields-bind, yields-then}
 use Rattle.rules.specs.Bytes.{line_blank, letter, run_byte, underscored}
 use Rattle.rules.specs.Sheet.{Lookup, text_of}
 use Rattle.rules.specs.Strings.{escape, onto, literal_from, literal, reference, plus, expression_round, expression}
 use Rattle.rules.proofs.Laws.Enough.{rounds-again, rounds-stop, expression-moving}
-use Rattle.scan.specs.Laws.{seen, skip_at, tail-part}
+use Rattle.scan.specs.Laws.{seen, skip_at, tail-part, prefix-split}
 use Rattle.scan.specs.Stretches.{span-stops}
 use Rattle.scan.specs.Sets.{part, plain_byte, Spans, Sees}
+use Rattle.scan.specs.declared.read.Read.{Read}
 use Rattle.string_ends.specs.Ends.{Ends, Reads, Makes, IsRound, Begins, ReadsRound, ReadsExpression}
 use Rattle.string_ends.specs.declared.RoundStart.{RoundStart}
 use Rattle.string_ends.specs.declared.RoundStart.TheVariants.{Literal, Reference, Nothing}
@@ -224,13 +228,13 @@ module _ (t : List ℕ) {s : RoundStart} (b : Begins t s) where
 
 -- A round is read, by what it begins with, and its text taken.
 module _ (t : List ℕ) {s : RoundStart} (w : Begins t s) {A : Type 0} {takes : A → List ℕ → A → Type 0} {looks : A → Lookup → Type 0} {a : A} where
-  pub literal-taken : {i k : ℕ} {z : A} → s ≡ Literal i → Reads takes (literal (part t i (length t))) (part t i (length t)) a k z → ReadsRound takes looks t true (i + k) a z
+  pub literal-taken : {i k : ℕ} {z : A} → s ≡ Literal i → Reads takes (literal (part t i (length t))) (part t i (length t)) a k z → ReadsRound takes looks t (record { what = true; used = i + k }) a z
   literal-taken e r = record { text = λ look. _; round = λ look. round-at-literal t w look e r.ends; took = _; taken = r.text; says = λ look l. refl }
 
-  pub reference-taken : {i k : ℕ} {z : A} → s ≡ Reference i k → ((v : List ℕ) × takes a v z × ((look : Lookup) → looks a look → text_of (look (underscored (part t i k))) ≡ v)) → ReadsRound takes looks t true k a z
+  pub reference-taken : {i k : ℕ} {z : A} → s ≡ Reference i k → ((v : List ℕ) × takes a v z × ((look : Lookup) → looks a look → text_of (look (underscored (part t i k))) ≡ v)) → ReadsRound takes looks t (record { what = true; used = k }) a z
   reference-taken e h = record { text = λ look. _; round = λ look. round-at-reference t w look e; took = h.0; taken = h.1; says = h.2 }
 
-  pub nothing-taken : {i : ℕ} → s ≡ Nothing i → takes a [] a → ReadsRound takes looks t false i a a
+  pub nothing-taken : {i : ℕ} → s ≡ Nothing i → takes a [] a → ReadsRound takes looks t (record { what = false; used = i }) a a
   nothing-taken e n = record { text = λ look. []; round = λ look. round-at-nothing t w look e; took = []; taken = n; says = λ look l. refl }
 
 -- An expression is read up to i; v is its text so far.
@@ -271,6 +275,44 @@ module _ {look : Lookup} {t : List ℕ} {i : ℕ} {v : List ℕ} (x : Expression
         let z = rounds-again (expression_round look) (λ a. a) (expression-moving look) v _ (drop i t) (ap (λ y. y.0) g) in
         record { inside = omega (arith, w.there refl); left = x.left ∙ z ∙ ap (λ y. rounds (expression_round look) (λ a. a) (v ++ u) y.1) g }
 
+-- What an expression comes to begins with what was read of it.
+prefix-more : (v u w : List ℕ) → prefix v u ≡ true → prefix v (u ++ w) ≡ true
+unfolding prefix
+prefix-more [] u w h = refl
+prefix-more (x ∷ v) [] w h = absurd (true≢false (sym h))
+prefix-more (x ∷ v) (y ∷ u) w h = and_i (eqb x y) (prefix v (u ++ w)) (and_l (eqb x y) (prefix v u) h) (prefix-more v u w (and_r (eqb x y) (prefix v u) h))
+
+prefix_self : (v : List ℕ) → prefix v v ≡ true
+unfolding same
+prefix_self v = and_r (eqb (length v) (length v)) (prefix v v) (same_refl v)
+
+module _ (look : Lookup) (v : List ℕ) where
+  pub begins : Turn (List ℕ) (List ℕ) → Bool
+  begins (again u) = prefix v u
+  begins (stop u) = prefix v u
+
+  pub plus-begins : (u : List ℕ) → prefix v u ≡ true → Yields begins (plus look u)
+  unfolding plus begins
+  plus-begins u h = search (yields_ret, yields_if, yields-bind, yields-then) depth 12
+
+  round-begins : (u : List ℕ) → prefix v u ≡ true → Yields begins (expression_round look u)
+  unfolding expression_round begins
+  round-begins u h = search (yields_ret, yields_if, yields-bind, yields-then, plus-begins, prefix-more) depth 14
+
+  pub loop-at : (n : ℕ) (u t : List ℕ) (r : Turn (List ℕ) (List ℕ)) → (expression_round look u t).0 ≡ r → begins r ≡ true → ((w s : List ℕ) → prefix v w ≡ true → prefix v (loop (expression_round look) (λ a. a) n w s).0 ≡ true) → prefix v (loop (expression_round look) (λ a. a) (suc n) u t).0 ≡ true
+  unfolding loop begins
+  loop-at n u t (again w) p h ih = rw (p, loop) (ih w _ h)
+  loop-at n u t (stop w) p h ih = rw (p, loop) h
+
+  pub loop-begins : (n : ℕ) (u t : List ℕ) → prefix v u ≡ true → prefix v (loop (expression_round look) (λ a. a) n u t).0 ≡ true
+  unfolding loop
+  loop-begins zero u t h = h
+  loop-begins (suc n) u t h = loop-at n u t (expression_round look u t).0 refl ((round-begins u h).yields t) (loop-begins n)
+
+begins-so : {look : Lookup} {t : List ℕ} {i : ℕ} {v : List ℕ} → ExpressionTo look t i v → (expression look t).0 ≡ v ++ drop (length v) (expression look t).0
+unfolding rounds
+begins-so {look} {t} {i} {v} x = prefix-split v (expression look t).0 (ap (λ r. prefix v r.0) x.left ∙ loop-begins look v _ v (drop i t) (prefix_self v))
+
 -- An expression is read up to i, for every lookup, and a text taken.
 pub record ExpressionAt {A : Type 0} (takes : A → List ℕ → A → Type 0) (looks : A → Lookup → Type 0) (t : List ℕ) (a z : A) (i : ℕ) : Type 0 where
   pub text : Lookup → List ℕ
@@ -282,24 +324,31 @@ pub record ExpressionAt {A : Type 0} (takes : A → List ℕ → A → Type 0) (
 pub expression_start : {A : Type 0} {takes : A → List ℕ → A → Type 0} {looks : A → Lookup → Type 0} {a : A} → takes a [] a → (t : List ℕ) → ExpressionAt takes looks t a a 0
 expression_start n t = record { text = λ look. []; to = λ look. expression-begun look t; took = []; taken = n; says = λ look l. refl }
 
-module _ {A : Type 0} {takes : A → List ℕ → A → Type 0} {looks : A → Lookup → Type 0} {t : List ℕ} {a b c : A} {i : ℕ} (x : ExpressionAt takes looks t a b i) {f : Bool} {k : ℕ} (M : ReadsRound takes looks (take (length t - i) (drop i t)) f k b c) where
+module _ {A : Type 0} {takes : A → List ℕ → A → Type 0} {looks : A → Lookup → Type 0} {t : List ℕ} {a b c : A} {i : ℕ} (x : ExpressionAt takes looks t a b i) {r : Read Bool} (M : ReadsRound takes looks (take (length t - i) (drop i t)) r b c) where
   -- By a lookup that finds nothing: the round lies in the text.
-  pub ends-inside : i + k ≤ length t
+  pub ends-inside : i + r.used ≤ length t
   ends-inside = round-inside (x.to (λ z. none)) (M.round (λ z. none))
 
   module _ (more : (a b c : A) (v w : List ℕ) → takes a v b → takes b w c → takes a (v ++ w) c) (kept : (a b : A) (v : List ℕ) (look : Lookup) → takes a v b → looks a look → looks b look) where
     both : (look : Lookup) → looks a look → (x.text look ++ M.text look) ≡ (x.took ++ M.took)
     both look l = rw (x.says look l, M.says look (kept _ _ _ look x.taken l)) refl
 
-    made : {m : ℕ} → ((look : Lookup) → Makes (expression look t) t m (x.text look ++ M.text look)) → ReadsExpression takes looks t a m c
-    made h = record { ends = λ look. (h look).ends; took = _; taken = more _ _ _ _ _ x.taken M.taken; says = λ look l. (h look).text ∙ both look l }
+    made : {done : A → Type 0} {m : ℕ} → ((look : Lookup) → Makes (expression look t) t m (x.text look ++ M.text look)) → ReadsExpression takes looks done t a m c
+    made h = record { ends = λ n look. (h look).ends; taken = λ look l. rw ((h look).text ∙ both look l) (more _ _ _ _ _ x.taken M.taken) }
 
-    pub expression_none : f ≡ false → ReadsExpression takes looks t a (i + k) c
+    pub expression_none : {done : A → Type 0} → r.what ≡ false → ReadsExpression takes looks done t a (i + r.used) c
     expression_none e = made (λ look. makes_none (x.to look) (M.round look) e)
 
-    module _ {j : ℕ} (e : f ≡ true) (n : Spans line_blank t (i + k) j) where
-      pub expression_last : Sees (the "+") t j false → ReadsExpression takes looks t a j c
+    module _ {j : ℕ} (e : r.what ≡ true) (n : Spans line_blank t (i + r.used) j) where
+      pub expression_last : {done : A → Type 0} → Sees (the "+") t j false → ReadsExpression takes looks done t a j c
       expression_last w = made (λ look. makes-plus (x.to look) (M.round look) e n w)
 
       pub expression_again : Sees (the "+") t j true → ExpressionAt takes looks t a c (j + 1)
       expression_again w = record { text = λ look. _; to = λ look. expression-on (x.to look) (M.round look) e n w; took = _; taken = more _ _ _ _ _ x.taken M.taken; says = both }
+
+-- Reading stops where the text behind does not matter.
+pub expression_done : {A : Type 0} {takes : A → List ℕ → A → Type 0} {looks : A → Lookup → Type 0} {done : A → Type 0} {t : List ℕ} {a z : A} {i : ℕ} → ((a b : A) (v w : List ℕ) → takes a v b → done b → takes a (v ++ w) b) → ExpressionAt takes looks t a z i → done z → ReadsExpression takes looks done t a i z
+expression_done past x d = record {
+  ends = λ n look. absurd (n d);
+  taken = λ look l. rw (begins-so (x.to look), x.says look l) (past _ _ _ _ x.taken d);
+}

@@ -2,26 +2,24 @@
 // for every sheet.
 #![tactic(auto)]
 
-ghost use Rattle.std.specs.Prelude.{◌≡◌, List, ℕ, [], ◌++◌};
+ghost use Rattle.std.specs.Prelude.{◌≡◌, List, ℕ, [], ◌++◌, true};
 ghost use Rattle.rules.specs.Bytes.{underscored};
 ghost use Rattle.rules.specs.Sheet.{Lookup, text_of};
 ghost use Rattle.rules.specs.Strings.{escape, literal, expression};
 ghost use Rattle.string_ends.specs.Ends.{Ends, Reads, Begins, ReadsRound, ReadsExpression};
 
+use scan::Read;
+
 // What takes a text, piece by piece.
 pub trait Pieces {
-    ghost Ready: { Self → Type 0 };
-
     // Before a text, the text, and behind it.
     ghost Takes: { Self → List ℕ → Self → Type 0 };
 
     // Takes a piece.
     fn take(&mut self, piece: &[u8])
-        requires { Ready self.old }
-        ensures ready { Ready self.new }
-        ensures takes { Takes self.old piece.now self.new };
+        ensures { Takes self.old piece.now self.new };
 
-    ghost none: { (a : Self) → Ready a → Takes a [] a };
+    ghost none: { (a : Self) → Takes a [] a };
 
     ghost more: { (a b c : Self) (v w : List ℕ) → Takes a v b → Takes b w c → Takes a (v ++ w) c };
 }
@@ -31,20 +29,25 @@ pub trait Terms: Pieces {
     // What references are looked up by.
     ghost Looks: { Self → Lookup → Type 0 };
 
+    // Whatever text comes behind is taken already.
+    ghost Done: { Self → Type 0 };
+
     // Takes the text that a run stands for.
     fn reference(&mut self, run: &[u8])
-        requires { Self.Ready self.old }
-        ensures ready { Self.Ready self.new }
-        ensures takes { (v : List ℕ) × Self.Takes self.old v self.new × ((look : Lookup) → Looks self.old look → text_of (look (underscored run.now)) ≡ v) };
+        ensures { (v : List ℕ) × Self.Takes self.old v self.new × ((look : Lookup) → Looks self.old look → text_of (look (underscored run.now)) ≡ v) };
+
+    // Is all text behind taken already? Then an expression is not read to its end.
+    fn done(&self) -> bool
+        ensures { result ≡ true → Done self.now };
 
     ghost kept: { (a b : Self) (v : List ℕ) (look : Lookup) → Self.Pieces.Takes a v b → Looks a look → Looks b look };
+
+    ghost past: { (a b : Self) (v w : List ℕ) → Self.Pieces.Takes a v b → Done b → Self.Pieces.Takes a (v ++ w) b };
 }
 
 // Takes what a backslash and this byte stand for.
 fn escape<P: Pieces>(to: &mut P, x: u8)
-    requires { P.Ready to.old }
-    ensures ready { P.Ready to.new }
-    ensures takes { P.Takes to.old (escape x) to.new }
+    ensures { P.Takes to.old (escape x) to.new }
 {
     match x {
         b'n' => to.take(b"\n"),
@@ -60,9 +63,7 @@ fn escape<P: Pieces>(to: &mut P, x: u8)
 
 // Reads a literal from behind its quote; where it ends. A stretch without quote and backslash is taken whole.
 pub fn literal<P: Pieces>(text: &[u8], to: &mut P) -> usize
-    requires { P.Ready to.old }
-    ensures ready { P.Ready to.new }
-    ensures reads { Reads P.Takes (literal text.now) text.now to.old result to.new }
+    ensures { Reads P.Takes (literal text.now) text.now to.old result to.new }
 {
     let mut i: usize = 0;
     loop {
@@ -88,13 +89,11 @@ pub fn literal<P: Pieces>(text: &[u8], to: &mut P) -> usize
 struct Nowhere;
 
 impl Pieces for Nowhere {
-    ghost Ready = { λ a. Unit {0} };
-
     ghost Takes = { λ a v b. Unit {0} };
 
     fn take(&mut self, _piece: &[u8]) {}
 
-    ghost none = { λ a r. tt };
+    ghost none = { λ a. tt };
 
     ghost more = { λ a b c v w p q. tt };
 }
@@ -105,6 +104,14 @@ impl Terms for Nowhere {
     fn reference(&mut self, _run: &[u8]) {}
 
     ghost kept = { λ a b v look p q. q };
+
+    ghost Done = { λ a. ⊥ };
+
+    fn done(&self) -> bool {
+        false
+    }
+
+    ghost past = { λ a b v w p d. tt };
 }
 
 // Where a literal ends, from behind its quote.
@@ -137,49 +144,41 @@ pub fn round_start(text: &[u8]) -> RoundStart
     RoundStart::Nothing { at: i }
 }
 
-// A round of an expression: is there a term, and where does the round end?
-#[derive(Clone, Copy)]
-pub struct Round {
-    pub found: bool,
-    pub used: usize,
-}
-
-// Reads a round of an expression up to its `+`.
-pub fn read_round<P: Terms>(text: &[u8], to: &mut P) -> Round
-    requires { P.Ready to.old }
-    ensures ready { P.Ready to.new }
-    ensures reads { ReadsRound P.Takes P.Looks text.now result.found result.used to.old to.new }
+// Reads a round of an expression up to its `+`: is there a term?
+pub fn read_round<P: Terms>(text: &[u8], to: &mut P) -> Read<bool>
+    ensures { ReadsRound P.Takes P.Looks text.now result to.old to.new }
 {
     match round_start(text) {
-        RoundStart::Literal { from } => Round {
-            found: true,
+        RoundStart::Literal { from } => Read {
+            what: true,
             used: from + literal(&text[from..], to),
         },
         RoundStart::Reference { from, to: end } => {
             to.reference(&text[from..end]);
-            Round {
-                found: true,
+            Read {
+                what: true,
                 used: end,
             }
         }
-        RoundStart::Nothing { at } => Round {
-            found: false,
+        RoundStart::Nothing { at } => Read {
+            what: false,
             used: at,
         },
     }
 }
 
-// Reads an expression; where it ends.
+// Reads an expression; where it ends, if it was read to its end.
 pub fn expression<P: Terms>(text: &[u8], to: &mut P) -> usize
-    requires { P.Ready to.old }
-    ensures ready { P.Ready to.new }
-    ensures reads { ReadsExpression P.Takes P.Looks text.now to.old result to.new }
+    ensures { ReadsExpression P.Takes P.Looks P.Done text.now to.old result to.new }
 {
     let mut i: usize = 0;
     loop {
+        if to.done() {
+            return i;
+        }
         let r = read_round(&text[i..], to);
         i += r.used;
-        if !r.found {
+        if !r.what {
             return i;
         }
         i = scan::span(text, i, scan::Set::LineBlank);

@@ -1,8 +1,7 @@
 -- References that are looked up in a sheet.
-use Rattle.std.specs.Prelude.{◌≡◌, List, Bool, ℕ}
+use Rattle.std.specs.Prelude.{◌≡◌, List, ℕ}
 use Rattle.rules.specs.Sheet.{Lookup, resolve}
 use Rattle.sheet.specs.Records.{records_of}
-use Rattle.string_ends.specs.Ends.{IsRound}
 use Rattle.strings.specs.declared.looked.Looked.{Looked}
 
 -- A text is taken, in the same place with the same sheet.
@@ -16,9 +15,3 @@ LooksIn l look = look ≡ resolve (records_of l.sheet.now)
 -- The lookup of a sheet stays where the sheet does.
 pub looks-kept : {a b : List ℕ} {look : Lookup} → b ≡ a → look ≡ resolve (records_of a) → look ≡ resolve (records_of b)
 looks-kept e l = rw e l
-
--- A round of an expression up to its `+` is read, and a text taken, which is the round's: before it a, behind it z.
-pub record ReadsTerm {A : Type 0} (takes : A → List ℕ → A → Type 0) (look : Lookup) (t : List ℕ) (found : Bool) (k : ℕ) (a z : A) : Type 0 where
-  pub took : List ℕ
-  pub taken : takes a took z
-  pub round : IsRound look found t k took

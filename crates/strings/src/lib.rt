@@ -8,14 +8,14 @@ ghost use Rattle.rules.specs.Strings.{literal, expression};
 ghost use Rattle.sheet.specs.Records.{records_of};
 ghost use Rattle.string_ends.specs.Ends.{Reads};
 ghost use Rattle.strings.specs.Written.{Written};
-ghost use Rattle.strings.specs.Looked.{ReadsTerm};
 
 use buffers::writer::Writer;
 use looked::Looked;
 use piece_writer::PieceWriter;
 use refusal::Refusal;
+use scan::Read;
 use sheet::{Name, Sheet};
-use string_ends::{Pieces, Round};
+use string_ends::Pieces;
 
 pub mod looked;
 pub mod piece_writer;
@@ -27,8 +27,8 @@ pub fn find_text<'a>(sheet: &Sheet<'a>, run: &[u8]) -> &'a [u8]
     sheet.text(Name::Reference(run))
 }
 
-// Reads a literal from behind its quote, and puts its text; how many bytes it takes.
-pub fn literal(text: &[u8], w: &mut Writer<'_>) -> Result<usize, Refusal>
+// Reads a literal from behind its quote, and puts its text; how many bytes it takes is told whether or not there is room.
+pub fn literal(text: &[u8], w: &mut Writer<'_>) -> Read<Result<(), Refusal>>
     ensures { Written (literal text.now) text.now w.old w.new result }
 {
     let mut to = PieceWriter {
@@ -36,31 +36,22 @@ pub fn literal(text: &[u8], w: &mut Writer<'_>) -> Result<usize, Refusal>
         outcome: Ok(()),
     };
     let used = string_ends::literal(text, &mut to);
-    to.outcome.and(Ok(used))
+    Read {
+        what: to.outcome,
+        used,
+    }
 }
 
 // Reads an expression whose references are looked up in a sheet; how many bytes it takes.
 pub fn read_expression<P: Pieces>(text: &[u8], sheet: &Sheet<'_>, to: &mut P) -> usize
-    requires { P.Ready to.old }
-    ensures ready { P.Ready to.new }
-    ensures reads { Reads P.Takes (expression (resolve (records_of sheet.now)) text.now) text.now to.old result to.new }
+    ensures { Reads P.Takes (expression (resolve (records_of sheet.now)) text.now) text.now to.old result to.new }
 {
     let mut looked = Looked { sheet, to };
     string_ends::expression(text, &mut looked)
 }
 
-// Reads a round of an expression up to its `+`.
-pub fn read_round<P: Pieces>(text: &[u8], sheet: &Sheet<'_>, to: &mut P) -> Round
-    requires { P.Ready to.old }
-    ensures ready { P.Ready to.new }
-    ensures reads { ReadsTerm P.Takes (resolve (records_of sheet.now)) text.now result.found result.used to.old to.new }
-{
-    let mut looked = Looked { sheet, to };
-    string_ends::read_round(text, &mut looked)
-}
-
-// Reads an expression, and puts its text; how many bytes it takes.
-pub fn expression(text: &[u8], sheet: &Sheet<'_>, w: &mut Writer<'_>) -> Result<usize, Refusal>
+// Reads an expression, and puts its text; how many bytes it takes is told, too.
+pub fn expression(text: &[u8], sheet: &Sheet<'_>, w: &mut Writer<'_>) -> Read<Result<(), Refusal>>
     ensures { Written (expression (resolve (records_of sheet.now)) text.now) text.now w.old w.new result }
 {
     let mut to = PieceWriter {
@@ -68,5 +59,8 @@ pub fn expression(text: &[u8], sheet: &Sheet<'_>, w: &mut Writer<'_>) -> Result<
         outcome: Ok(()),
     };
     let used = read_expression(text, sheet, &mut to);
-    to.outcome.and(Ok(used))
+    Read {
+        what: to.outcome,
+        used,
+    }
 }

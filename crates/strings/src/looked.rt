@@ -15,15 +15,13 @@ pub struct Looked<'a, 's, P: Pieces> {
 }
 
 impl<'a, 's, P: Pieces> Pieces for Looked<'a, 's, P> {
-    ghost Ready = { λ l. P.Ready l.to.now };
-
     ghost Takes = { TakesLooked P.Takes };
 
     fn take(&mut self, piece: &[u8]) {
         self.to.take(piece);
     }
 
-    ghost none = { λ a r. (refl, refl, P.none a.to.now r) };
+    ghost none = { λ a. (refl, refl, P.none a.to.now) };
 
     ghost more = { λ a b c v w p q. (q.0 ∙ p.0, q.1 ∙ p.1, P.more a.to.now b.to.now c.to.now v w p.2 q.2) };
 }
@@ -36,4 +34,12 @@ impl<'a, 's, P: Pieces> Terms for Looked<'a, 's, P> {
     }
 
     ghost kept = { λ a b v look p l. looks-kept p.0 l };
+
+    ghost Done = { λ l. ⊥ };
+
+    fn done(&self) -> bool {
+        false
+    }
+
+    ghost past = { λ a b v w p d. absurd d };
 }

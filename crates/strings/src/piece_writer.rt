@@ -1,5 +1,5 @@
 // A text that is written piece by piece.
-ghost use Rattle.strings.specs.Puts.{Puts, puts-none, puts-more};
+ghost use Rattle.strings.specs.Puts.{PutsOn, on-none, on-more};
 
 use buffers::writer::Writer;
 use refusal::Refusal;
@@ -13,9 +13,7 @@ pub struct PieceWriter<'w, 'a> {
 }
 
 impl<'w, 'a> Pieces for PieceWriter<'w, 'a> {
-    ghost Ready = { λ a. Unit {0} };
-
-    ghost Takes = { Puts };
+    ghost Takes = { PutsOn };
 
     fn take(&mut self, piece: &[u8]) {
         if self.outcome.is_ok() {
@@ -23,7 +21,7 @@ impl<'w, 'a> Pieces for PieceWriter<'w, 'a> {
         }
     }
 
-    ghost none = { λ a r. puts-none a };
+    ghost none = { λ a. on-none a };
 
-    ghost more = { λ a b c v w p q. puts-more p q };
+    ghost more = { λ a b c v w p q. on-more p q };
 }

@@ -9,7 +9,7 @@ use Rattle.rules.specs.Calls.{test_load_result}
 use Rattle.refusal.specs.declared.Refusal.{Refusal}
 use Rattle.buffers.specs.declared.writer.Writer.{Writer}
 use Rattle.buffers.specs.Emits.{write-join, write-none, write-one}
-use Rattle.buffers.specs.Wrote.{Wrote, Stands, Writing, writing-start, writing-same, writing-on, writing-no, writing-end}
+use Rattle.buffers.specs.Wrote.{Puts, Wrote, Stands, puts-wrote, Writing, writing-start, writing-same, writing-on, writing-no, writing-end}
 use Rattle.test_load.specs.Load.{Loads}
 
 -- THE LOOP: the pieces still to come, `left` of them, complete the load.
@@ -25,7 +25,7 @@ module _ (list : List (List ℕ)) (seed : ℕ) (w : Writer) where
   loading-starts h e f = record { writing = rw (h, e, f) (writing-start Whole w) }
 
   -- Piece i of n.
-  module _ {n i state k new : ℕ} {t : List ℕ} {w₁ w₂ : Writer} {q : Result (Unit {0}) Refusal} (L : Loading (n - i) state w₁) (h : i < n) (x : k ≡ draw 8 state) (z : slice_index_or list k [] ≡ t) (y : new ≡ next state) (P : Wrote (put t ok) w₁ w₂ q) where
+  module _ {n i state k new : ℕ} {t : List ℕ} {w₁ w₂ : Writer} {q : Result (Unit {0}) Refusal} (L : Loading (n - i) state w₁) (h : i < n) (x : k ≡ draw 8 state) (z : slice_index_or list k [] ≡ t) (y : new ≡ next state) (P : Puts t w₁ w₂ q) where
     here : Writing Whole w w₁ (and_then (put t ok) (put (concat (pieces_from list (n - (i + 1)) new)) ok))
     unfolding pieces_from concat and_then
     here =
@@ -33,10 +33,10 @@ module _ (list : List (List ℕ)) (seed : ℕ) (w : Writer) where
         writing-same (λ full r. sym (write-join full r t _ ok)) (rw (← z, x, y) (rw s at L.writing))
 
     pub loading-goes : {u : Unit {0}} → q ≡ Ok u → Loading (n - (i + 1)) new w₂
-    loading-goes e = record { writing = writing-on (put t ok) _ here e P }
+    loading-goes e = record { writing = writing-on (put t ok) _ here e (puts-wrote P) }
 
     pub loading-no : {j : Refusal} → q ≡ Err j → {r : Result (Unit {0}) Refusal} → r ≡ Err j → Wrote Whole w w₂ r
-    loading-no e f = writing-no (put t ok) _ here e P f
+    loading-no e f = writing-no (put t ok) _ here e (puts-wrote P) f
 
   pub loading-ends : {left state : ℕ} {w₁ : Writer} {u : Unit {0}} → Loading left state w₁ → left ≡ 0 → Wrote Whole w w₁ (Ok u)
   unfolding pieces_from concat

@@ -1,7 +1,7 @@
 // Values of definitions (document 01, section 7): a text, none, or a dictionary, which holds values.
 #![tactic(auto)]
 
-ghost use Rattle.std.specs.Prelude.{◌≡◌, ◌+◌, ◌-◌, ◌<◌, ◌^◌, false, length};
+ghost use Rattle.std.specs.Prelude.{◌≡◌, ◌+◌, ◌-◌, ◌<◌, ◌^◌, false};
 ghost use Rattle.rules.specs.Reader.{Reader, bytes};
 ghost use Rattle.rules.specs.Answer.{Answer};
 ghost use Rattle.rules.specs.Bytes.{line_blank};
@@ -10,36 +10,25 @@ ghost use Rattle.rules.specs.Definitions.{text_value, value, dictionary_value};
 ghost use Rattle.scan.specs.Sets.{Spans, Starts};
 ghost use Rattle.sheet.specs.Find.{HasRecords};
 ghost use Rattle.sheet.specs.Records.{records_of};
-ghost use Rattle.values.specs.Values.{Room, ReadsValue, IsNone, IsDictionary};
+ghost use Rattle.values.specs.Values.{ReadsValue, IsNone, IsDictionary};
+ghost use Rattle.values.specs.Dictionary.{NextEntry};
 
+pub mod work;
+
+use crate::work::Work;
 use binding::buffer::RecordBuffer;
 use binding::text_lead;
 use buffers::writer::Writer;
 use record_bytes::Lead;
 use refusal::Refusal;
-use scan::Set;
-use sheet::head::{DICTIONARY, NONE};
+use scan::{Read, Set};
 use sheet::{Name, Sheet};
 
-// A value that was read: what stands before its own bytes, how many of those stand at the start of the work buffer, and how many bytes of the text were read.
+// A value that was read: what stands before its own bytes, and these, which are a part of the work buffer.
 #[derive(Clone, Copy)]
-pub struct ValueRead {
+pub struct ValueBytes<'a> {
     pub lead: Lead,
-    pub len: usize,
-    pub used: usize,
-}
-
-impl ValueRead {
-    // The same value, read from behind so many bytes.
-    fn behind(self, n: usize) -> ValueRead
-        requires { n + self.used < 2 ^ 64 }
-        ensures { result ≡ record { lead = self.lead; len = self.len; used = n + self.used } }
-    {
-        ValueRead {
-            used: n + self.used,
-            ..self
-        }
-    }
+    pub own: &'a [u8],
 }
 
 // How many bytes of its own a text or a dictionary may have.
@@ -49,139 +38,147 @@ fn own_room(limit: usize) -> usize
     limit.saturating_sub(3)
 }
 
-// A text. Its own bytes are put at the start of `own`.
-fn text_value(
+// A text.
+fn text_value<'a>(
     text: &[u8],
     sheet: &Sheet<'_>,
-    own: &mut [u8],
-    limit: usize,
-) -> Result<ValueRead, Refusal>
-    requires { length own.old ≡ limit - 3 }
-    ensures size { length own.new ≡ length own.old }
-    ensures reads { ReadsValue limit (text_value limit (resolve (records_of sheet.now)) text.now) text.now own.new result }
+    work: Work<'a>,
+) -> Result<Read<ValueBytes<'a>>, Refusal>
+    ensures { ReadsValue work.entry.limit (text_value work.entry.limit (resolve (records_of sheet.now)) text.now) text.now result }
 {
-    let mut w = Writer::new(own, Refusal::Limit);
-    let used = strings::expression(text, sheet, &mut w)?;
+    let limit = work.limit;
+    let room = own_room(limit);
+    let mut w = Writer::new(&mut work.bytes[..room], Refusal::Limit);
+    let read = strings::expression(text, sheet, &mut w);
+    read.what?;
     if limit == 0 {
         return Err(Refusal::Limit);
     }
-    let len = w.at;
-    Ok(ValueRead {
-        lead: text_lead(len),
-        len,
-        used,
+    let own = w.text();
+    let lead = text_lead(own.len());
+    Ok(Read {
+        what: ValueBytes { lead, own },
+        used: read.used,
     })
 }
 
 // None: it has no bytes of its own.
-fn none_value(used: usize) -> ValueRead
+fn none_value<'a>(used: usize) -> Read<ValueBytes<'a>>
     ensures { IsNone used result }
 {
-    ValueRead {
-        lead: Lead {
-            bit: NONE,
-            count: 0,
-        },
-        len: 0,
-        used,
-    }
+    let what = ValueBytes {
+        lead: Lead::Nothing,
+        own: b"",
+    };
+    Read { what, used }
 }
 
 // The dictionary of these records.
-fn whole_dictionary(records: &[u8], used: usize) -> ValueRead
+fn whole_dictionary<'a>(records: &'a [u8], used: usize) -> Read<ValueBytes<'a>>
     requires { HasRecords records.now }
     ensures { IsDictionary records.now used result }
 {
-    ValueRead {
-        lead: Lead {
-            bit: DICTIONARY,
-            count: sheet::lookup::count(records),
-        },
-        len: records.len(),
-        used,
-    }
+    let what = ValueBytes {
+        lead: Lead::Dictionary(sheet::lookup::count(records)),
+        own: records,
+    };
+    Read { what, used }
 }
 
-// A value that is no dictionary, where line blanks end: a text, or none. Its own bytes are put at the start of `own`.
-fn simple_value(
+// A value that is no dictionary, where line blanks end: a text, or none.
+fn simple_value<'a>(
     text: &[u8],
     sheet: &Sheet<'_>,
-    own: &mut [u8],
-    limit: usize,
-) -> Result<ValueRead, Refusal>
-    requires { Spans line_blank text.now 0 0 × Starts (bytes "(") text.now 0 false × (length own.old ≡ limit - 3) }
-    ensures size { length own.new ≡ length own.old }
-    ensures reads { (inner : Reader (Answer Value)) → ReadsValue limit (value limit (resolve (records_of sheet.now)) inner text.now) text.now own.new result }
+    work: Work<'a>,
+) -> Result<Read<ValueBytes<'a>>, Refusal>
+    requires { Spans line_blank text.now 0 0 × Starts (bytes "(") text.now 0 false }
+    ensures { (inner : Reader (Answer Value)) → ReadsValue work.entry.limit (value work.entry.limit (resolve (records_of sheet.now)) inner text.now) text.now result }
 {
     if scan::at(text, 0, b'"') {
-        return text_value(text, sheet, own, limit);
+        return text_value(text, sheet, work);
     }
     if scan::starts_with(text, 0, b"none") {
         return Ok(none_value(4));
     }
     if scan::sees(text, 0, Set::UnderscoreOrLetter) {
-        return text_value(text, sheet, own, limit);
+        return text_value(text, sheet, work);
     }
     Ok(none_value(scan::find(text, 0, b'\n')))
 }
 
-// A value, with so many levels of dictionaries left.
+// A value.
 #[cycle(dictionary_value)]
-pub fn value(
+pub fn value<'a>(
     text: &[u8],
     sheet: &Sheet<'_>,
-    work: &mut [u8],
-    limit: usize,
-    levels: usize,
-) -> Result<ValueRead, Refusal>
-    requires { Room work.old limit levels }
-    ensures size { length work.new ≡ length work.old }
-    ensures reads { ReadsValue limit (value limit (resolve (records_of sheet.now)) (dictionary_value limit (resolve (records_of sheet.now)) levels) text.now) text.now work.new result }
+    work: Work<'a>,
+) -> Result<Read<ValueBytes<'a>>, Refusal>
+    ensures { ReadsValue work.entry.limit (value work.entry.limit (resolve (records_of sheet.now)) (dictionary_value work.entry.limit (resolve (records_of sheet.now)) work.entry.levels) text.now) text.now result }
 {
     let i = scan::span(text, 0, Set::LineBlank);
     if scan::starts_with(text, i, b"(") {
-        let v = dictionary(&text[i + 1..], sheet, work, limit, levels)?;
+        let v = dictionary(&text[i + 1..], sheet, work)?;
         return Ok(v.behind(i + 1));
     }
-    let room = own_room(limit);
-    let v = simple_value(&text[i..], sheet, &mut work[..room], limit)?;
+    let v = simple_value(&text[i..], sheet, work)?;
     Ok(v.behind(i))
 }
 
-// A dictionary behind its `(`: it grows at the start of the work buffer, and its values are read behind `limit`.
+// The entry that a text begins with: its name, and where its value begins; none where the dictionary ends.
+fn next_entry(text: &[u8]) -> Read<Option<&[u8]>>
+    ensures { NextEntry text.now result }
+{
+    let from = scan::span(text, 0, Set::CommaOrBlank);
+    if !scan::sees(text, from, Set::NotParen) {
+        return Read {
+            what: None,
+            used: scan::skip(text, from),
+        };
+    }
+    let to = scan::span(text, from, Set::Name);
+    let used = scan::span(text, to, Set::ColonOrBlank);
+    let what = Some(&text[from..to]);
+    Read { what, used }
+}
+
+// A dictionary behind its `(`: it grows in the first slot, and its values are read behind that.
 #[cycle(dictionary_value)]
-fn dictionary(
+fn dictionary<'a>(
     text: &[u8],
     sheet: &Sheet<'_>,
-    work: &mut [u8],
-    limit: usize,
-    levels: usize,
-) -> Result<ValueRead, Refusal>
-    requires { Room work.old limit levels }
-    ensures size { length work.new ≡ length work.old }
-    ensures reads { ReadsValue limit (dictionary_value limit (resolve (records_of sheet.now)) levels text.now) text.now work.new result }
+    work: Work<'a>,
+) -> Result<Read<ValueBytes<'a>>, Refusal>
+    ensures { ReadsValue work.entry.limit (dictionary_value work.entry.limit (resolve (records_of sheet.now)) work.entry.levels text.now) text.now result }
 {
+    let Work {
+        bytes,
+        limit,
+        levels,
+    } = work;
     if levels == 0 {
         return Err(Refusal::Level);
     }
-    let (slot, behind) = work.split_at_mut(limit);
+    let (slot, behind) = bytes.split_at_mut(limit);
     let mut records = RecordBuffer {
         bytes: slot,
         len: 0,
         limit: own_room(limit),
+        last: 0,
     };
     let mut i: usize = 0;
-    let mut last: usize = 0;
-    loop {
-        let j = scan::span(text, i, Set::CommaOrBlank);
-        if !scan::sees(text, j, Set::NotParen) {
-            return Ok(whole_dictionary(records.records(), scan::skip(text, j)));
-        }
-        let k = scan::span(text, j, Set::Name);
-        let c = scan::span(text, k, Set::ColonOrBlank);
-        let v = value(&text[c..], sheet, behind, limit, levels - 1)?;
-        let name = Name::Plain(&text[j..k]);
-        last = records.bind_value_at(last, name, v.lead, &behind[..v.len])?;
-        i = c + v.used;
+    'entries: loop {
+        let entry = next_entry(&text[i..]).behind(i);
+        let Some(name) = entry.what else {
+            let RecordBuffer { bytes, len, .. } = records;
+            return Ok(whole_dictionary(&bytes[..len], entry.used));
+        };
+        let inner = Work {
+            bytes: behind,
+            limit,
+            levels: levels - 1,
+        };
+        let v = value(&text[entry.used..], sheet, inner)?;
+        records.bind_value(Name::Plain(name), v.what.lead, v.what.own)?;
+        i = entry.used + v.used;
     }
 }

@@ -1,5 +1,5 @@
 use mathlib.Core.Path.{sym, ◌∙◌}
-use Rattle.arguments.specs.Given.{judges-two, judges-three, judges-four, judges-six, judges_nine, judges-none}
+use Rattle.arguments.specs.Given.{judges-two, judges-three, judges-four, judges-six, judges_nine}
 use Rattle.arguments.proofs.check.Goals as goal
 
 pub returns-in_default : goal.returns-in_default
@@ -16,6 +16,3 @@ returns-then-not-is_ascii c = judges-six _ _ _ _ _ c.in-Some.ensures.layout c.in
 
 pub returns-then-over : goal.returns-then-over
 returns-then-over c = judges_nine _ _ _ _ _ c.in-Some.ensures.layout c.in-Some-check.ensures.1 (sym c.is_folder.ensures ∙ c.if-not-is_folder.false) (sym c.is_ascii.ensures ∙ c.if-not-is_ascii.false) c.if-over.true
-
-pub returns-else-over : goal.returns-else-over
-returns-else-over c = (c.in-Some.ensures.bytes, c.in-Some-check.ensures.0, judges-none _ _ _ _ _ c.in-Some.ensures.layout c.in-Some-check.ensures.1 (sym c.is_folder.ensures ∙ c.if-not-is_folder.false) (sym c.is_ascii.ensures ∙ c.if-not-is_ascii.false) c.if-over.false)

@@ -1,9 +1,6 @@
 use Rattle.rules.specs.Calls.{resolve_includes_of}
-use Rattle.builder.specs.Cleared.{text-fits, text-cleared}
+use Rattle.builder.specs.Cleared.{text-cleared}
 use Rattle.builder.proofs.resolve_includes.Goals as goal
-
-pub clear_from-requires : goal.clear_from-requires
-clear_from-requires c = let t = c.resolve_includes.ensures in text-fits _ t.size _ _ t.fits c.from-included.ensures
 
 pub returns : goal.returns
 unfolding resolve_includes_of

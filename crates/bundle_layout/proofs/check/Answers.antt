@@ -9,9 +9,6 @@ returns-then-b-lt2 c = sym (check-short _ (search rules))
 pub loop-done-init : goal.loop-done-init
 loop-done-init c = walking_start _ (search rules) c.word-done-end.ensures c.start-walk.ensures
 
-pub next-requires : goal.next-requires
-next-requires c = c.loop-done.invariant.1.place
-
 pub returns-in_err-next : goal.returns-in_err-next
 returns-in_err-next c = rw c.from_residual.ensures (walking-no _ (search rules) c.loop-done.invariant c.next.new.self c.in_err-next.ensures)
 

@@ -1,7 +1,6 @@
-use Rattle.std.proofs.Common.{refl}
-use Rattle.rules.specs.Bytes.{join}
+use Rattle.std.proofs.Common.{arith}
 use Rattle.definition_imports.specs.Import.{joined-over}
 use Rattle.definition_imports.proofs.join_path.Goals as goal
 
-pub returns-in_default : goal.returns-in_default
-returns-in_default c = (joined-over (join c.args.folder.now c.args.path.now) c.in_default.ensures, refl)
+pub returns-in_err-joined : goal.returns-in_err-joined
+returns-in_err-joined c = joined-over _ c.in_err-joined.ensures (grind arith)

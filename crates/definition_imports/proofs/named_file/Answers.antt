@@ -1,11 +1,19 @@
 use Rattle.std.proofs.Common.{◌≡◌, Err, arith}
-use Rattle.definition_imports.specs.Import.{named-four, named-file}
+use Rattle.definition_imports.specs.Import.{named-long, named-four, named-file}
 use Rattle.definition_imports.proofs.named_file.Goals as goal
 
+pub returns-in_err-path : goal.returns-in_err-path
+returns-in_err-path c = λ p h.
+    let gone : c.from_residual.result ≡ Err c.in_err-path.field-0.0 = grind arith in
+    rw gone (named-long _ _ _ p h c.in_err-path.was)
+
 pub returns-in_err-joined : goal.returns-in_err-joined
-returns-in_err-joined c =
-    let gone : c.from_residual.result ≡ Err c.in_err-joined.field-0.0 = grind arith in
-    rw (gone, c.in_err-joined.ensures.1) (named-four _ _ _ _ c.in_err-joined.ensures.0)
+returns-in_err-joined c = λ p h.
+    let gone : c.from_residual-in_err-joined.result ≡ Err c.in_err-joined.field-0.0 = grind arith in
+    let is : c.in_ok-path.field-0.now ≡ p = rw c.in_ok-path.was at h in
+    rw (gone, ← is) (named-four _ _ _ _ c.in_err-joined.ensures.0 c.in_err-joined.ensures.1)
 
 pub returns : goal.returns
-returns c = named-file _ _ _ _ c.in_ok-joined.ensures.0 c.in_ok-joined.ensures.1 _ c.open_import.ensures
+returns c = λ p h.
+    let is : c.in_ok-path.field-0.now ≡ p = rw c.in_ok-path.was at h in
+    rw (← is) (named-file _ _ _ _ c.in_ok-joined.ensures.0 c.in_ok-joined.ensures.1 c.open_import.ensures)

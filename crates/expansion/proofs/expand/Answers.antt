@@ -1,6 +1,4 @@
-use Rattle.std.proofs.Common.{rules, arith}
-use Rattle.scan.specs.Stretches.{all-part}
-use Rattle.rules.specs.Bytes.{ascii}
+use Rattle.std.proofs.Common.{rules, arith, ◌∙◌, sym, ap, length, drop}
 use Rattle.expansion.specs.Run.{expanding-start, expanding-full, expanding-end, hash, expanding-refused, expanding-inside, expanding-smaller, expanding-on}
 use Rattle.expansion.proofs.expand.Goals as goal
 
@@ -8,22 +6,36 @@ pub steps-init : goal.steps-init
 steps-init c = expanding-start _ _ _ _
 
 pub returns-in_err-put : goal.returns-in_err-put
-returns-in_err-put c = expanding-full _ _ _ _ c.steps.invariant c.find-at.ensures c.put.ensures c.in_err-put.was (grind arith)
+returns-in_err-put c = rw (← c.bytes-bytes.ensures.same) (expanding-full _ _ _ _ c.steps.invariant c.find-at.ensures c.put.ensures c.in_err-put.was (grind arith))
 
-pub returns-then-text-at : goal.returns-then-text-at
-returns-then-text-at c = expanding-end _ _ _ _ c.steps.invariant c.find-at.ensures c.put.ensures c.in_ok-put.was (search rules)
+pub returns-then-bytes-at : goal.returns-then-bytes-at
+returns-then-bytes-at c = rw (← c.bytes-bytes.ensures.same) (expanding-end _ _ _ _ c.steps.invariant c.find-at.ensures c.put.ensures c.in_ok-put.was (search rules))
+
+pub behind-requires : goal.behind-requires
+behind-requires c = omega (arith, c.find-at.ensures.inside, ap length c.bytes-bytes.ensures.same)
 
 pub step-requires : goal.step-requires
-step-requires c = (all-part ascii _ _ _ c.requires, hash _ _ _ _ c.steps.invariant c.find-at.ensures c.put.ensures c.in_ok-put.was (search rules))
+step-requires c =
+    let p = c.behind.ensures ∙ ap (drop c.find-at.result) (sym c.bytes-bytes.ensures.same) in
+    hash _ _ _ _ c.steps.invariant c.find-at.ensures c.put.ensures c.in_ok-put.was (search rules) p
 
-pub returns-in_err-s : goal.returns-in_err-s
-returns-in_err-s c = expanding-refused _ _ _ _ c.steps.invariant c.find-at.ensures c.put.ensures c.in_ok-put.was (search rules) c.step.ensures c.in_err-s.was (grind arith)
+pub returns-in_err-read : goal.returns-in_err-read
+returns-in_err-read c =
+    let p = c.behind.ensures ∙ ap (drop c.find-at.result) (sym c.bytes-bytes.ensures.same) in
+    rw (← c.bytes-bytes.ensures.same) (expanding-refused _ _ _ _ c.steps.invariant c.find-at.ensures c.put.ensures c.in_ok-put.was (search rules) p c.step.ensures c.in_err-read.was (grind arith))
 
 pub overflow_add-done : goal.overflow_add-done
-overflow_add-done c = let h = expanding-inside _ _ _ _ c.steps.invariant c.find-at.ensures c.put.ensures c.in_ok-put.was (search rules) c.step.ensures c.in_ok-s.was in search rules
+overflow_add-done c =
+    let p = c.behind.ensures ∙ ap (drop c.find-at.result) (sym c.bytes-bytes.ensures.same) in
+    let h = expanding-inside _ _ _ _ c.steps.invariant c.find-at.ensures c.put.ensures c.in_ok-put.was (search rules) p c.step.ensures c.in_ok-read.was in
+    search rules
 
 pub steps-smaller : goal.steps-smaller
-steps-smaller c = expanding-smaller _ _ _ _ c.steps.invariant c.find-at.ensures c.put.ensures c.in_ok-put.was (search rules) c.step.ensures c.in_ok-s.was
+steps-smaller c =
+    let p = c.behind.ensures ∙ ap (drop c.find-at.result) (sym c.bytes-bytes.ensures.same) in
+    expanding-smaller _ _ _ _ c.steps.invariant c.find-at.ensures c.put.ensures c.in_ok-put.was (search rules) p c.step.ensures c.in_ok-read.was
 
 pub steps-preserved : goal.steps-preserved
-steps-preserved c = expanding-on _ _ _ _ c.steps.invariant c.find-at.ensures c.put.ensures c.in_ok-put.was (search rules) c.step.ensures c.in_ok-s.was
+steps-preserved c =
+    let p = c.behind.ensures ∙ ap (drop c.find-at.result) (sym c.bytes-bytes.ensures.same) in
+    expanding-on _ _ _ _ c.steps.invariant c.find-at.ensures c.put.ensures c.in_ok-put.was (search rules) p c.step.ensures c.in_ok-read.was

@@ -1,7 +1,7 @@
 use Rattle.std.proofs.Common.{◌≡◌, Err, sym, ◌∙◌, arith}
 use Rattle.rules.specs.Reader.{bytes}
 use Rattle.rules.specs.Run.{put, ok}
-use Rattle.buffers.specs.Wrote.{wrote-fail, wrote-then, wrote-no}
+use Rattle.buffers.specs.Wrote.{puts-wrote, wrote-fail, wrote-then, wrote-no}
 use Rattle.marks.specs.Read.{emit_of}
 use Rattle.marks.specs.Marks.{mark-some}
 use Rattle.includes.specs.Resolve.{resolving-start, resolving-full, resolving-end, resolving-refused, resolving-on}
@@ -21,7 +21,7 @@ put_mark-returns-in_err-resolve-in-Include t c =
 
 pub put_mark-returns-in-Copied : goal.put_mark-returns-in-Copied
 unfolding emit_of
-put_mark-returns-in-Copied t c = rw c.in-Copied.is c.put.ensures
+put_mark-returns-in-Copied t c = rw c.in-Copied.is (puts-wrote c.put.ensures)
 
 pub put_mark-returns-in-Source : goal.put_mark-returns-in-Source
 unfolding emit_of
@@ -31,7 +31,7 @@ pub put_mark-returns-in_ok-resolve-in-Include : goal.put_mark-returns-in_ok-reso
 unfolding emit_of
 put_mark-returns-in_ok-resolve-in-Include t c =
     rw (c.in-Include.is, c.in_ok-file-in-Include.ensures.goes c.args.folder.now c.folder.ensures)
-    (wrote-then c.in_ok-resolve-in-Include.was c.resolve.ensures.wrote c.put-in-Include.ensures)
+    (wrote-then c.in_ok-resolve-in-Include.was c.resolve.ensures.wrote (puts-wrote c.put-in-Include.ensures))
 
 pub resolve-marks-init : goal.resolve-marks-init
 resolve-marks-init t c = record { reads = c.new-reader.ensures; resolving = resolving-start _ _ _ _ _ }

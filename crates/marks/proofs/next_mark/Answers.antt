@@ -1,9 +1,6 @@
 use Rattle.std.proofs.Common.{rules}
-use Rattle.marks.specs.Marks.{unmarked-start, mark-last, mark-found, mark-again}
+use Rattle.marks.specs.Marks.{mark-last, mark-found, mark-again}
 use Rattle.marks.proofs.next_mark.Goals as goal
-
-pub loop-from-init : goal.loop-from-init
-loop-from-init c = unmarked-start _ _ (search rules)
 
 pub returns-then-text-at : goal.returns-then-text-at
 returns-then-text-at c = mark-last c.loop-from.invariant c.find-at.ensures (search rules)

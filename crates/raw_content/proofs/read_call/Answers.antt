@@ -1,16 +1,16 @@
 use Rattle.std.proofs.Common.{rules, arith}
 use Rattle.scan.specs.Stretches.{spans-but}
-use Rattle.raw_content.specs.Content.{read-back, read-long, read-refused, read-file}
+use Rattle.raw_content.specs.Content.{read-back, told-long, told-file, read-file}
 use Rattle.raw_content.proofs.read_call.Goals as goal
+use Rattle.raw_content.proofs.read_call.Goals.{in-Ok, in-Err}
 
 pub returns-then-not-at : goal.returns-then-not-at
 returns-then-not-at c = read-back _ _ _ c.span-i.ensures c.at.ensures c.if-not-at.true
 
-pub returns-in_err-used : goal.returns-in_err-used
-returns-in_err-used c = read-long _ _ _ c.span-i.ensures c.at.ensures c.if-not-at.false c.expression.ensures.wrote c.new-w.ensures (search rules) c.in_err-used.was (grind arith)
-
-pub returns-in_err-file : goal.returns-in_err-file
-returns-in_err-file c = let n = c.expression.ensures.wrote.same in let m = c.new-w.ensures.same in read-refused _ _ _ c.span-i.ensures c.at.ensures c.if-not-at.false c.expression.ensures.wrote c.new-w.ensures c.in_ok-used.was (search rules) c.in_err-file.ensures (grind arith)
-
 pub returns : goal.returns
-returns c = let n = c.expression.ensures.wrote.same in let m = c.new-w.ensures.same in read-file _ _ _ c.span-i.ensures c.at.ensures c.if-not-at.false c.expression.ensures.wrote c.new-w.ensures c.in_ok-used.was (search rules) c.in_ok-used.ensures.ends (spans-but ")" c.find-end.ensures) c.skip.ensures c.in_ok-file.ensures (c.text_content.ensures _)
+returns c =
+    read-file _ _ _ c.span-i.ensures c.at.ensures c.if-not-at.false c.expression-read.ensures c.new-w.ensures (spans-but ")" c.find-end.ensures) c.skip.ensures _
+    (elim c.match-read.branch [
+      | in-Ok w ↦ told-file _ _ _ c.span-i.ensures c.at.ensures c.if-not-at.false c.expression-read.ensures c.new-w.ensures w.in-Ok.is w.text.ensures _ (rw w.what-is (w.file_content-what.ensures _))
+      | in-Err w ↦ told-long _ _ _ c.span-i.ensures c.at.ensures c.if-not-at.false c.expression-read.ensures c.new-w.ensures (search rules) w.in-Err.is (grind arith)
+    ])

@@ -1,6 +1,6 @@
 use Rattle.std.proofs.Common.{rules}
 use native.Mathlib.Omega.{arith}
-use Rattle.sheet.specs.Records.{checked-keeps}
+use Rattle.sheet.specs.Records.{checked-keeps, sheet-keeps}
 use Rattle.sheet_layout.specs.Check.{check-long, checking-start, checking-end, checking-broken, checking_bad, checking-on}
 use Rattle.sheet_layout.proofs.check.Goals as goal
 
@@ -20,4 +20,7 @@ pub loop-i-preserved : goal.loop-i-preserved
 loop-i-preserved c = checking-on c.loop-i.invariant (search rules) _ c.in_ok-o.ensures _ c.in_ok-i.ensures
 
 pub new-requires : goal.new-requires
-new-requires c = checked-keeps _ (checking-end c.loop-i.invariant (search rules)) (λ i. omega (arith, c.type_inv.s i))
+new-requires c = sheet-keeps (checked-keeps _ (checking-end c.loop-i.invariant (search rules)) (λ i. omega (arith, c.type_inv.s i)))
+
+pub returns : goal.returns
+returns c = (c.new.ensures, checked-keeps _ (checking-end c.loop-i.invariant (search rules)) (λ i. omega (arith, c.type_inv.s i)))

@@ -6,7 +6,6 @@ use Rattle.string_ends.proofs.expression.Given as goal
 abbrev pub invariant-loop-i : goal.invariant-loop-i
 invariant-loop-i g l = record {
   inside : l.i ≤ length l.text;
-  ready : g.P.Pieces.Ready l.to;
   so_far : ExpressionAt g.P.Pieces.Takes g.P.Terms.Looks l.text l.initial.to l.to l.i;
 }
 

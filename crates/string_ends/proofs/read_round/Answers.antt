@@ -1,5 +1,4 @@
 use native.Mathlib.Omega.{arith}
-use lib.ListN.{length-take, length-drop}
 use Rattle.string_ends.specs.Text.{literal-inside, reference-inside, literal-taken, reference-taken, nothing-taken}
 use Rattle.string_ends.proofs.read_round.Goals as goal
 
@@ -18,11 +17,11 @@ slice_bounds-reference-start g c = let h = reference-inside _ c.round_start.ensu
 pub slice_bounds-reference-end : goal.slice_bounds-reference-end
 slice_bounds-reference-end g c = let h = reference-inside _ c.round_start.ensures c.in-Reference.is in omega (arith, h.0, h.1)
 
-pub returns-in-Literal-clause-reads : goal.returns-in-Literal-clause-reads
-returns-in-Literal-clause-reads g c = literal-taken _ c.round_start.ensures c.in-Literal.is c.literal.ensures.reads
+pub returns-in-Literal : goal.returns-in-Literal
+returns-in-Literal g c = literal-taken _ c.round_start.ensures c.in-Literal.is c.literal.ensures
 
-pub returns-in-Reference-clause-reads : goal.returns-in-Reference-clause-reads
-returns-in-Reference-clause-reads g c = reference-taken _ c.round_start.ensures c.in-Reference.is c.reference.ensures.takes
+pub returns-in-Reference : goal.returns-in-Reference
+returns-in-Reference g c = reference-taken _ c.round_start.ensures c.in-Reference.is c.reference.ensures
 
-pub returns-in-Nothing-clause-reads : goal.returns-in-Nothing-clause-reads
-returns-in-Nothing-clause-reads g c = nothing-taken _ c.round_start.ensures c.in-Nothing.is (g.met.P.Pieces.none _ c.requires)
+pub returns-in-Nothing : goal.returns-in-Nothing
+returns-in-Nothing g c = nothing-taken _ c.round_start.ensures c.in-Nothing.is (g.met.P.Pieces.none _)

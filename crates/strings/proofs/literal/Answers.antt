@@ -1,6 +1,6 @@
 use Rattle.std.proofs.Common.{rules, refl}
-use Rattle.strings.specs.Written.{written}
+use Rattle.strings.specs.Written.{puts-all}
 use Rattle.strings.proofs.literal.Goals as goal
 
 pub returns : goal.returns
-returns c = let r = c.literal-used.ensures.reads in let n = r.text.same in rw c.and.ensures (written r.text refl r.ends (search rules))
+returns c = let r = c.literal-used.ensures in let n = r.text.same in record { ends = r.ends; puts = puts-all r.text refl (search rules) }

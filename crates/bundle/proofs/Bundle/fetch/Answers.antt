@@ -16,4 +16,4 @@ returns-in-Folder c = fetch-found _ _ c.is_path.ensures c.if-not-is_path.false _
 
 pub returns-in-File : goal.returns-in-File
 unfolding content_of file_at
-returns-in-File c = rw (← c.self.view_is) (fetch-found _ _ c.is_path.ensures c.if-not-is_path.false _ (rw (← c.self.view_is) at c.in-File.ensures))
+returns-in-File c = rw (c.of.ensures, ← c.self.view_is) (fetch-found _ _ c.is_path.ensures c.if-not-is_path.false _ (rw (← c.self.view_is) at c.in-File.ensures))

@@ -8,9 +8,6 @@ word-done-end-requires c = find_long _ c.self.invariant
 pub loop-done-init : goal.loop-done-init
 loop-done-init c = let z : c.word-done-end.result - 0 ≡ c.word-done-end.result = omega arith in rw z (finding-start _ _ c.self.invariant c.word-done-end.ensures)
 
-pub entry_at-requires : goal.entry_at-requires
-entry_at-requires c = c.loop-done.invariant.place
-
 pub unwrap-entry-requires : goal.unwrap-entry-requires
 unwrap-entry-requires c = is-there c.loop-done.invariant (c.word-done-end.result - (c.loop-done.done + 1)) (omega arith) _ c.entry_at.ensures
 

@@ -1,5 +1,5 @@
-use Rattle.calls.specs.Measure.{measures-read}
+use Rattle.calls.specs.Meter.{measures-read}
 use Rattle.calls.proofs.measure.expression.Goals as goal
 
 pub returns : goal.returns
-returns c = let r = rw c.start-to.ensures at c.read_expression-used.ensures.reads in measures-read c.requires r.ends.inside r.ends.rest r.text
+returns c = let r = c.read_expression-used.ensures in measures-read c.start-to.ensures r.ends r.text

@@ -1,4 +1,4 @@
-use Prim.Native.Nat.{◌+◌, ◌*◌}
+use Prim.Native.Nat.{◌+◌, ◌-◌, ◌*◌}
 use lib.ListN.{length}
 use Rattle.rules.specs.Files.{view}
 use Rattle.bundle.specs.Find.{entries_of}
@@ -15,7 +15,7 @@ abbrev pub decreases-import_step : goal.decreases-import_step
 decreases-import_step l = 3 * l.levels
 
 abbrev pub invariant-parse-steps : goal.invariant-parse-steps
-invariant-parse-steps l = Parsing (file_step (view (entries_of l.bundle)) l.levels l.folder) l.text l.fn.left l.left l.rest l.last
+invariant-parse-steps l = Parsing (file_step (view (entries_of l.bundle)) l.levels l.folder) l.bytes l.fn.left l.left l.done
 
 abbrev pub decreases-parse-steps : goal.decreases-parse-steps
-decreases-parse-steps l = length l.rest
+decreases-parse-steps l = length l.bytes - l.done

@@ -8,8 +8,8 @@ returns-then-starts_with c = writes-raw _ c.requires c.starts_with.ensures c.if-
 pub returns-then-starts_with-2 : goal.returns-then-starts_with-2
 returns-then-starts_with-2 c = writes-link _ c.requires c.starts_with.ensures c.if-starts_with.false c.starts_with-2.ensures c.if-starts_with-2.true c.link_step.ensures
 
-pub returns-in_err-step : goal.returns-in_err-step
-returns-in_err-step c = refuses-reference _ c.requires c.starts_with.ensures c.if-starts_with.false c.starts_with-2.ensures c.if-starts_with-2.false c.reference_step.ensures c.in_err-step.was (grind arith)
+pub returns-in_err-read : goal.returns-in_err-read
+returns-in_err-read c = refuses-reference _ c.requires c.starts_with.ensures c.if-starts_with.false c.starts_with-2.ensures c.if-starts_with-2.false c.reference_step-read.ensures c.in_err-read.was (grind arith)
 
 pub returns : goal.returns
-returns c = writes-reference _ c.requires c.starts_with.ensures c.if-starts_with.false c.starts_with-2.ensures c.if-starts_with-2.false c.reference_step.ensures c.in_ok-step.was
+returns c = writes-reference _ c.requires c.starts_with.ensures c.if-starts_with.false c.starts_with-2.ensures c.if-starts_with-2.false c.reference_step-read.ensures c.in_ok-read.was

@@ -1,44 +1,21 @@
-use Rattle.std.proofs.Common.{rules}
-use native.Mathlib.Omega.{arith}
-use Rattle.sheet.specs.Find.{seek_start, sought, sought-at, seek_end, seek_found, seek_passed, seek_on, item_body, item_has-body, item_holding, item_has, item_rest}
+use Rattle.sheet.specs.Walk.{walks-some, walks-none}
+use Rattle.sheet.specs.Find.{item_has-body, seek_start, seek_on, seek_found, seek_passed, seek_end}
 use Rattle.sheet.proofs.lookup.find.Goals as goal
 
-pub loop-i-init : goal.loop-i-init
-loop-i-init c = λ l. seek_start l
+pub loop-o-init : goal.loop-o-init
+loop-o-init c = λ l. seek_start l (rw c.into_iter-o-iterator.ensures.into_iter_gives (c.over-o-items.ensures l.r l.part))
 
-pub item-o-requires : goal.item-o-requires
-item-o-requires c = sought-at (sought (c.loop-i.invariant c.requires) (search rules))
+pub loop-o-preserved : goal.loop-o-preserved
+loop-o-preserved c = λ l. let k = c.loop-o.invariant l in seek_on k (walks-some k.over _ c.next.ensures.steps c.in-Some.is) c.order.ensures c.in-Less.is
 
 pub value-requires : goal.value-requires
-value-requires c = let k = sought (c.loop-i.invariant c.requires) (search rules) in
-    item_has-body (c.item-o.ensures _ _ _ _ k.part)
+value-requires c = let k = c.loop-o.invariant c.requires in item_has-body (walks-some k.over _ c.next.ensures.steps c.in-Some.is).told
 
 pub returns-in-Equal : goal.returns-in-Equal
-returns-in-Equal c = λ l.
-    let k = sought (c.loop-i.invariant l) (search rules) in
-    let d = c.item-o.ensures _ _ _ _ k.part in
-    seek_found k d.name c.order.ensures _ c.in-Equal.is (c.value.ensures _ (item_body d))
+returns-in-Equal c = λ l. let k = c.loop-o.invariant l in seek_found k (walks-some k.over _ c.next.ensures.steps c.in-Some.is) c.order.ensures _ c.in-Equal.is c.value.ensures
 
 pub returns-in-Greater : goal.returns-in-Greater
-returns-in-Greater c = λ l.
-    let k = sought (c.loop-i.invariant l) (search rules) in
-    let d = c.item-o.ensures _ _ _ _ k.part in
-    seek_passed k d.name c.order.ensures c.in-Greater.is
-
-pub skip-i-requires : goal.skip-i-requires
-skip-i-requires c = let k = sought (c.loop-i.invariant c.requires) (search rules) in
-    item_has (c.item-o.ensures _ _ _ _ k.part)
-
-pub loop-i-smaller : goal.loop-i-smaller
-loop-i-smaller c = let k = sought (c.loop-i.invariant c.requires) (search rules) in
-    let d = c.item-o.ensures _ _ _ _ k.part in
-    omega (arith, d.on, c.skip-i.ensures _ _ (item_holding d))
-
-pub loop-i-preserved : goal.loop-i-preserved
-loop-i-preserved c = λ l.
-    let k = sought (c.loop-i.invariant l) (search rules) in
-    let d = c.item-o.ensures _ _ _ _ k.part in
-    seek_on k d.name c.order.ensures c.in-Less.is (item_rest d (c.skip-i.ensures _ _ (item_holding d)))
+returns-in-Greater c = λ l. let k = c.loop-o.invariant l in seek_passed k (walks-some k.over _ c.next.ensures.steps c.in-Some.is) c.order.ensures c.in-Greater.is
 
 pub returns : goal.returns
-returns c = λ l. seek_end (c.loop-i.invariant l) (search rules)
+returns c = λ l. let k = c.loop-o.invariant l in seek_end k (walks-none k.over _ c.next.ensures.steps c.in-None.is)

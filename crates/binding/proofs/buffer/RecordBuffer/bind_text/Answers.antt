@@ -1,15 +1,14 @@
 use mathlib.Core.Path.{refl}
-use native.Mathlib.Omega.{arith}
 use Rattle.rules.specs.Sheet.{text}
-use Rattle.places.specs.Mark.{has-start}
-use Rattle.binding.specs.Buffer.{binds-yes, binds-no}
+use Rattle.places.specs.Mark.{begins-first}
+use Rattle.binding.specs.Buffer.{from-first, binds-as}
 use Rattle.binding.proofs.buffer.RecordBuffer.bind_text.Goals as goal
 
-pub bind_value_at-requires : goal.bind_value_at-requires
-bind_value_at-requires c = (has-start c.requires, record { v = text c.args.content.now; is = c.text_lead-lead.ensures c.args.content.now refl })
+pub invariant_of-self : goal.invariant_of-self
+invariant_of-self c = let b = c.args.self.now in record { fits = b.fits; room = b.room; small = b.small; place = λ r _ _. begins-first r }
 
-pub returns-in_err-bind_value_at : goal.returns-in_err-bind_value_at
-returns-in_err-bind_value_at c = binds-no (c.bind_value_at.ensures (text c.args.content.now) (c.text_lead-lead.ensures c.args.content.now refl)) c.in_err-bind_value_at.was (grind arith)
+pub bind_value-requires : goal.bind_value-requires
+bind_value-requires c = (from-first _ c.requires refl, record { v = text c.args.content.now; is = c.text_lead.ensures c.args.content.now refl })
 
 pub returns : goal.returns
-returns c = binds-yes (c.bind_value_at.ensures (text c.args.content.now) (c.text_lead-lead.ensures c.args.content.now refl)) c.in_ok-bind_value_at.was
+returns c = binds-as c.args.self.now _ refl refl refl (c.bind_value.ensures (text c.args.content.now) (c.text_lead.ensures c.args.content.now refl))

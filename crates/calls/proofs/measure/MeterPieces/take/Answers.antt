@@ -1,7 +1,5 @@
-use native.Mathlib.Omega.{arith}
-use lib.ListN.{length}
-use Rattle.buffers.specs.Laws.{after-bound}
+use Rattle.calls.specs.Measure.{behind-inside}
 use Rattle.calls.proofs.measure.MeterPieces.take.Goals as goal
 
-pub returns-clause-ready : goal.returns-clause-ready
-returns-clause-ready c = record { most = omega (arith, c.after.ensures, after-bound c.args.self.now.room c.args.self.now.size.len (length c.args.piece.now)); fits = c.requires.fits }
+pub invariant_of-self : goal.invariant_of-self
+invariant_of-self c = record { inside = behind-inside _ _ _ c.behind.ensures }

@@ -3,9 +3,6 @@ use Rattle.marks.specs.Marks.{mark-stands, mark-behind}
 use Rattle.marks.specs.Read.{read-commented, read_taken}
 use Rattle.marks.proofs.read.Reader.read.Goals as goal
 
-pub overflow_add-behind : goal.overflow_add-behind
-overflow_add-behind c = let r = rw (← c.self.view_is) at c.requires in omega (arith, c.len.ensures, (mark-stands _ _ r.1 r.2).inside)
-
 pub copied-requires : goal.copied-requires
 copied-requires c = let r = rw (← c.self.view_is) at c.requires in omega (arith, c.len.ensures, (mark-stands _ _ r.1 r.2).inside)
 
