@@ -24,16 +24,16 @@ abbrev pub block_text : List ℕ → List ℕ → List ℕ
 block_text l c = bytes "```" ++ (l ++ (bytes "\n" ++ (c ++ (last_newline c ++ bytes "```\n"))))
 
 -- PUTTING it.
-close_empty : (c : List ℕ) → length c ≡ 0 → bytes "\n```\n" ≡ last_newline c ++ bytes "```\n"
+pub close_empty : (c : List ℕ) → length c ≡ 0 → bytes "\n```\n" ≡ last_newline c ++ bytes "```\n"
 unfolding last_newline ends_in_newline empty
 close_empty [] h = refl
 close_empty (x ∷ xs) h = absurd (omega arith)
 
-close_other : (c : List ℕ) → (length c ≡ 0 → ⊥) → (get_or c (length c - 1) 0 ≡ 10 → ⊥) → bytes "\n```\n" ≡ last_newline c ++ bytes "```\n"
+pub close_other : (c : List ℕ) → (length c ≡ 0 → ⊥) → (get_or c (length c - 1) 0 ≡ 10 → ⊥) → bytes "\n```\n" ≡ last_newline c ++ bytes "```\n"
 unfolding last_newline
 close_other c h e = rw (ends_last c (omega arith) ∙ ne_eqb (get_or c (length c - 1) 0) 10 e, last_newline) refl
 
-close_newline : (c : List ℕ) → (length c ≡ 0 → ⊥) → get_or c (length c - 1) 0 ≡ 10 → bytes "```\n" ≡ last_newline c ++ bytes "```\n"
+pub close_newline : (c : List ℕ) → (length c ≡ 0 → ⊥) → get_or c (length c - 1) 0 ≡ 10 → bytes "```\n" ≡ last_newline c ++ bytes "```\n"
 unfolding last_newline
 close_newline c h e = rw (ends_last c (omega arith) ∙ eq-eqb (get_or c (length c - 1) 0) 10 e, not-empty c h, last_newline) refl
 

@@ -36,10 +36,10 @@ known_stretch {from = from} {to} {at} s h =
     spans-later (s (omega arith)) a b
 
 -- QUOTES. The byte at the end of a stretch without it.
-sees-stop : (c : Char) {t : List ℕ} {i j : ℕ} → Spans (but c) t i j → j < length t → Sees (the c) t j true
+pub sees-stop : (c : Char) {t : List ℕ} {i j : ℕ} → Spans (but c) t i j → j < length t → Sees (the c) t j true
 sees-stop c {t} {i} {j} s h = sees-is (the c) t j h (sym (but-no c (get_or t j 0) (spans-stop s h)))
 
-sees-none : (c : Char) {t : List ℕ} {j : ℕ} → length t ≤ j → Sees (the c) t j false
+pub sees-none : (c : Char) {t : List ℕ} {j : ℕ} → length t ≤ j → Sees (the c) t j false
 sees-none c {t} {j} h = sees-end (the c) t j h
 
 -- The reading of the quotes, by what the searches gave.

@@ -335,23 +335,23 @@ record Trimming (t : List ℕ) (n : ℕ) : Type 0 where
   pub inside : n ≤ length t
   pub rest : trim_end t ≡ trim_end (take n t)
 
-trimming-start : (t : List ℕ) → Trimming t (length t)
+pub trimming-start : (t : List ℕ) → Trimming t (length t)
 trimming-start t = record { inside = omega arith; rest = ap trim_end (sym (take_all (length t) t (omega arith))) }
 
 module _ {t : List ℕ} {n : ℕ} (k : Trimming t n) (h : 0 < n) where
   last : take n t ≡ take (n - 1) t ++ (get_or t (n - 1) 0 ∷ [])
   last = let e : n ≡ suc (n - 1) = omega arith in ap (λ z. take z t) e ∙ take-suc t (n - 1) 0 (omega (arith, k.inside))
 
-  trimming-blank : blank (get_or t (n - 1) 0) ≡ true → Trimming t (n - 1)
+  pub trimming-blank : blank (get_or t (n - 1) 0) ≡ true → Trimming t (n - 1)
   trimming-blank e = record { inside = omega (arith, k.inside); rest = k.rest ∙ ap trim_end last ∙ trim-append (take (n - 1) t) (get_or t (n - 1) 0 ∷ []) (trim_end-cons (get_or t (n - 1) 0) [] true (unfold trim_end empty in (rw e refl))) }
 
-  trimming-stop : blank (get_or t (n - 1) 0) ≡ false → TrimsEnd t n
+  pub trimming-stop : blank (get_or t (n - 1) 0) ≡ false → TrimsEnd t n
   trimming-stop e =
       let x = get_or t (n - 1) 0 in
       let y : trim_end (x ∷ []) ≡ x ∷ [] = trim_end-cons x [] false (rw e refl) ∙ (unfold trim_end in refl) in
       record { inside = k.inside; text = last ∙ sym (k.rest ∙ ap trim_end last ∙ trim-whole (take (n - 1) t) (x ∷ []) (omega (arith, ap length y)) ∙ ap (λ z. take (n - 1) t ++ z) y) }
 
-trimming-none : {t : List ℕ} {n : ℕ} → Trimming t n → n ≤ 0 → TrimsEnd t n
+pub trimming-none : {t : List ℕ} {n : ℕ} → Trimming t n → n ≤ 0 → TrimsEnd t n
 trimming-none {t} {n} k h =
     let e : n ≡ 0 = omega arith in
     record { inside = k.inside; text = ap (λ z. take z t) e ∙ sym (k.rest ∙ ap (λ z. trim_end (take z t)) e ∙ (unfold trim_end in refl)) }

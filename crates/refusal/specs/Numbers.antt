@@ -1,7 +1,7 @@
 -- The number of a refusal (01, section 8).
 use Rattle.std.specs.Prelude.{ℕ}
 use Rattle.refusal.specs.declared.Refusal.{Refusal}
-use Rattle.refusal.specs.declared.Refusal.TheVariants.{Work, Bundle, Sheet, Path, File, Byte, Level, Stalled, Limit, Middle, Output}
+use Rattle.refusal.specs.declared.Refusal.TheVariants.{Work, Bundle, Sheet, Path, File, Byte, Level, Stalled, Limit, Middle, Output, Other}
 
 abbrev pub number : Refusal → ℕ
 number Work = 1
@@ -15,3 +15,4 @@ number Stalled = 8
 number Limit = 9
 number Middle = 10
 number Output = 11
+number (Other n) = n

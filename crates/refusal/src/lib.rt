@@ -29,6 +29,8 @@ pub enum Refusal {
     Middle,
     // The output buffer is too short.
     Output,
+    // What a writer tells where it has no room, by a number of its caller's: no call of this library makes one.
+    Other(u8),
 }
 
 impl From<Refusal> for u8 {
@@ -47,6 +49,7 @@ impl From<Refusal> for u8 {
             Refusal::Limit => 9,
             Refusal::Middle => 10,
             Refusal::Output => 11,
+            Refusal::Other(number) => number,
         }
     }
 }

@@ -44,7 +44,7 @@ list_all-is p (x ∷ xs) = ap (λ z. p x && z) (list_all-is p xs)
 
 -- A block of bytes that all have p moves a stretch on.
 module _ (p : ℕ → Bool) (t : List ℕ) (at : ℕ) where
-  spanning_block : (n i : ℕ) → Spanning p t at i → i + n ≤ length t → all p (take n (drop i t)) ≡ true → Spanning p t at (i + n)
+  pub spanning_block : (n i : ℕ) → Spanning p t at i → i + n ≤ length t → all p (take n (drop i t)) ≡ true → Spanning p t at (i + n)
   unfolding all
   spanning_block zero i s h a = rw add-zero s
   spanning_block (suc n) i s h a =

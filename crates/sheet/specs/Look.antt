@@ -31,7 +31,7 @@ pub record UpToDot (t : List ℕ) (p q : ℕ) : Type 0 where
   pub at : q < length t → but "." (get_or t q 0) ≡ false
 
 -- What `span` answers in a name's text, said of the name as it is asked for.
-dot_spans : {t : List ℕ} {p q : ℕ} → Spans (but ".") t p q → UpToDot t p q
+pub dot_spans : {t : List ℕ} {p q : ℕ} → Spans (but ".") t p q → UpToDot t p q
 dot_spans {t} {p} {q} s = record {
   on = s.on;
   inside = s.inside;
