@@ -1,40 +1,11 @@
 -- What the library's methods leave in a slice, as stores.
-use Rattle.std.specs.Prelude.{◌≡◌, refl, List, ◌++◌, ℕ, ◌+◌, ◌-◌, ◌≤◌, min, length, take, drop}
-use Rattle.std.specs.List.{copy_within}
-use Rattle.std.proofs.Common.{sym, ap, ◌∙◌, arith, append-nil, length-drop, length-take-le, drop_of_length-le, take_all}
-use Rattle.std.proofs.Math.Decide.{dec_le}
+use Rattle.std.specs.Prelude.{◌≡◌, refl, List, ℕ, ◌-◌, ◌≤◌, length, take, drop}
+use Rattle.std.proofs.Common.{arith, append-nil, length-drop, length-take-le, drop_of_length-le}
 use Rattle.std.proofs.Math.ListN.{replicate}
-use Rattle.std.proofs.Math.Seq.{paste}
-use Rattle.std.proofs.lemmas.List.Edits.{sets, sets-eq}
-use Rattle.std.proofs.lemmas.Slice.{put_mid-paste}
 use borrow.Rule.Slice.PartMut.{put_mid}
 use Rattle.rules.specs.Calls.{zeros, padded}
-use Rattle.scan.specs.Sets.{part}
-use Rattle.buffers.specs.Laws.{sets-out, sets_clipped}
 
 module _ (b : List ℕ) where
-  paste-sets : (i : ℕ) (v : List ℕ) (n : ℕ) → n ≤ length v → i + n ≤ length b → paste b i v n ≡ sets b i (take n v)
-  paste-sets i v n h k =
-      let l : length (take n v) ≡ n = length-take-le n v h in
-      sym (sets-eq (take n v) b i (omega arith) ∙ ap (λ z. take i b ++ take n v ++ drop (i + z) b) l)
-
-  -- `copy_within`.
-  pub moved : (i j d : ℕ) → i ≤ j → j ≤ length b → d + (j - i) ≤ length b → copy_within b i j d ≡ sets b d (part b i j)
-  moved i j d h k l = paste-sets d (drop i b) (j - i) (omega (arith, length-drop i b)) l
-
-  -- `copy_from_slice` into the part from s on that takes n bytes of t.
-  pub stored : (p : ℕ) (t : List ℕ) {s n k : ℕ} {y : List ℕ} → s ≡ min p (length b) → n ≡ min (length t) (length b - s) → k ≡ n → y ≡ take n t → put_mid s k b y ≡ sets b p t
-  stored p t {s} {n} {k} {y} f g q e =
-      let l : length y ≡ n = ap length e ∙ length-take-le n t (omega arith) in
-      let a : put_mid s k b y ≡ sets b s (take n t) = put_mid-paste s k b y (take n t) n e (sym q) (sym (ap length (sym e) ∙ l)) ∙ paste-sets s (take n t) n (omega (arith, ap length e)) (omega arith) ∙ ap (sets b s) (take_all n (take n t) (omega (arith, ap length e))) in
-      a ∙ go (dec_le p (length b))
-    where
-      go : Dec (p ≤ length b) → sets b s (take n t) ≡ sets b p t
-      go (yes z) = let w : s ≡ p = omega arith in rw w (sets_clipped b p t n (omega arith) (omega arith))
-      go (no z) =
-          let w : n ≡ 0 = omega arith in
-          ap (λ m. sets b s (take m t)) w ∙ sym (sets-out b p t (omega arith))
-
   -- `fill` of all from a place on.
   pub cleared : (from : ℕ) {k : ℕ} {y : List ℕ} → from ≤ length b → k ≡ length b - from → y ≡ replicate (length (take (length b - from) (drop from b))) 0 → put_mid from k b y ≡ padded (length b) (take from b)
   unfolding padded zeros

@@ -12,9 +12,11 @@ pub mod writer;
 pub fn store(out: &mut [u8], at: usize, text: &[u8])
     ensures { out.new ≡ sets out.old at text.now }
 {
-    let start = at.min(out.len());
-    let n = text.len().min(out.len() - start);
-    out[start..start + n].copy_from_slice(&text[..n]);
+    let n = text.len().min(out.len().saturating_sub(at));
+    // A loop, since it costs an empty text no call; of a long one the compiler makes a call of memcpy.
+    for (i, x) in text[..n].iter().enumerate() {
+        out[at + i] = *x;
+    }
 }
 
 // Where a writer at p goes on behind n bytes; none where there is no room for them.

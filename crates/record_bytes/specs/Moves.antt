@@ -1,6 +1,6 @@
 -- Stores and moves inside one list. Assumes nothing.
-use Rattle.std.specs.Prelude.{◌≡◌, refl, List, [], ◌∷◌, ◌++◌, ℕ, suc, ◌+◌, ◌-◌, ◌≤◌, ◌<◌, length, take, drop, set}
-use Rattle.std.proofs.Common.{sym, ap, ◌∙◌, append_assoc, arith, length-append, take-append-drop, length-take-le, drop-set-lt, take-take, drop-drop, take_at}
+use Rattle.std.specs.Prelude.{◌≡◌, refl, List, [], ◌∷◌, ◌++◌, ℕ, suc, ◌+◌, ◌-◌, ◌≤◌, ◌<◌, length, take, drop, get_or, set}
+use Rattle.std.proofs.Common.{sym, ap, ◌∙◌, append_assoc, arith, length-append, take-append-drop, length-take-le, drop-cons, drop-set-lt, take-take, drop-drop, take_at}
 use Rattle.std.proofs.lemmas.List.Edits.{sets, sets-eq}
 use Rattle.std.proofs.Math.Seq.{length-sets, drop-append-add}
 use Rattle.std.proofs.lemmas.List.{take-append-le}
@@ -34,6 +34,48 @@ slice-stored p q i y l h k g =
     let e : i + q - (i + p) ≡ q - p = omega arith in
     let c : part (y ++ z) p q ≡ part y p q = sym (drop-take p q (y ++ z)) ∙ ap (drop p) (take-append-le q y z k) ∙ drop-take p q y in
     rw e (ap (take (q - p)) b ∙ c)
+
+-- The bytes from k to e are moved down to p once those up to m are, and then those from m on.
+pub down-further : (s : List ℕ) (p k m e : ℕ) → p ≤ k → k ≤ m → m ≤ e → e ≤ length s
+    → sets (sets s p (part s k m)) (p + (m - k)) (part (sets s p (part s k m)) m e) ≡ sets s p (part s k e)
+down-further s p k m e g h i j =
+    let y = part s k m in
+    let l : length y ≡ m - k = length-slice k m s (omega arith) in
+    ap (sets (sets s p y) (p + (m - k))) (slice-above m e p y s (omega arith)) ∙ ap (λ z. sets (sets s p y) (p + z) (part s m e)) (sym l) ∙ sets-append s p y (part s m e) ∙ ap (sets s p) (sym (cut_at s k m e h i))
+
+-- The bytes from j to e are moved up by n once those from k on are, and then those up to k.
+pub up-further : (s : List ℕ) (n j k e : ℕ) → j ≤ k → k ≤ e → e ≤ length s
+    → sets (sets s (k + n) (part s k e)) (j + n) (part (sets s (k + n) (part s k e)) j k) ≡ sets s (j + n) (part s j e)
+up-further s n j k e g h i =
+    let y = part s j k in
+    let l : k + n ≡ j + n + length y = omega (arith, length-slice j k s (omega arith)) in
+    ap (sets (sets s (k + n) (part s k e)) (j + n)) (slice-below j k (k + n) (part s k e) s g (omega arith)) ∙ ap (λ z. sets (sets s z (part s k e)) (j + n) y) l ∙ sets-before s (j + n) y (part s k e) ∙ ap (sets s (j + n)) (sym (cut_at s j k e g h))
+
+-- A part of one byte.
+part-one : (s : List ℕ) (k : ℕ) → k < length s → part s k (k + 1) ≡ get_or s k 0 ∷ []
+part-one s k h =
+    let e : k + 1 - k ≡ 1 = omega arith in
+    rw (e, drop-cons s k 0) refl
+
+-- Nothing is moved.
+pub none-moved : (s : List ℕ) (p k : ℕ) → sets s p (part s k k) ≡ s
+none-moved s p k =
+    let e : k - k ≡ 0 = omega arith in
+    ap (λ z. sets s p (take z (drop k s))) e
+
+-- A byte more is moved down.
+pub down-byte : (s : List ℕ) (n k e : ℕ) → n ≤ k → k < e → e ≤ length s
+    → sets (set s (k - n) (get_or s k 0)) (k + 1 - n) (part (set s (k - n) (get_or s k 0)) (k + 1) e) ≡ sets s (k - n) (part s k e)
+down-byte s n k e g h i =
+    let f : k - n + (k + 1 - k) ≡ k + 1 - n = omega arith in
+    rw (part-one s k (omega arith), f) at (down-further s (k - n) k (k + 1) e (omega arith) (omega arith) (omega arith) i)
+
+-- A byte more is moved up.
+pub up-byte : (s c : List ℕ) (n k e : ℕ) → 0 < k → k ≤ e → e ≤ length s → c ≡ sets s (k + n) (part s k e) → set c (k - 1 + n) (get_or c (k - 1) 0) ≡ sets s (k - 1 + n) (part s (k - 1) e)
+up-byte s c n k e z h i q =
+    let l : k - 1 < length c = omega (arith, ap length q, length-sets s (k + n) (part s k e)) in
+    let f : k - 1 + 1 ≡ k = omega arith in
+    ap (sets c (k - 1 + n)) (sym (rw f at (part-one c (k - 1) l))) ∙ rw q (up-further s n (k - 1) k e (omega arith) h i)
 
 -- A part that is stored where it stands.
 pub sets-slice : (s : List ℕ) (f t : ℕ) → f ≤ t → t ≤ length s → sets s f (part s f t) ≡ s

@@ -127,14 +127,37 @@ pub fn put_opening(buf: &mut [u8], at: usize, name: Name<'_>, lead: Lead)
     }
 }
 
+// Moves the bytes from a place up to another down to a third, the first of them first.
+fn move_down(buf: &mut [u8], from: usize, end: usize, to: usize)
+    requires { (to ≤ from) × (from ≤ end) × (end ≤ length buf.old) }
+    ensures { buf.new ≡ sets buf.old to (part buf.old from end) }
+{
+    let by = from - to;
+    for k in from..end {
+        buf[k - by] = buf[k];
+    }
+}
+
+// Moves the bytes from a place up to another up to a third, the last of them first.
+fn move_up(buf: &mut [u8], from: usize, end: usize, to: usize)
+    requires { (from ≤ to) × (from ≤ end) × (to + (end - from) ≤ length buf.old) }
+    ensures { buf.new ≡ sets buf.old to (part buf.old from end) }
+{
+    let by = to - from;
+    for k in (from..end).rev() {
+        buf[k + by] = buf[k];
+    }
+}
+
 // Moves the bytes from a place up to another to a third.
 pub fn shift(buf: &mut [u8], from: usize, end: usize, to: usize)
     requires { (from ≤ end) × (end ≤ length buf.old) × (to + (end - from) ≤ length buf.old) }
     ensures { buf.new ≡ sets buf.old to (part buf.old from end) }
 {
-    // What a value of the same length leaves in its place is not copied onto itself.
-    if to != from {
-        buf.copy_within(from..end, to);
+    if to < from {
+        move_down(buf, from, end, to);
+    } else if from < to {
+        move_up(buf, from, end, to);
     }
 }
 
