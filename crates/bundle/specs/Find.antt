@@ -19,7 +19,7 @@ use Rattle.rules.specs.Answer.{is_some}
 use Rattle.rules.proofs.Laws.Bool.{and_l, and_r}
 use Rattle.rules.proofs.Laws.Found.{some_same}
 use Rattle.scan.specs.Sets.{part, Within, Starts, Sees, byte_is}
-use Rattle.paths.specs.Joined.{Joins}
+use Rattle.paths.specs.Joined.{JoinsIn}
 use Rattle.paths.specs.declared.path.Path.{Path}
 use Rattle.bundle_entries.specs.Entries.{entry_of, path_at, IsHead, HeadAt}
 use Rattle.bundle_entries.specs.Whole.{closing, finish, bundle-rest, check-short}
@@ -212,9 +212,9 @@ module _ {b p : List ℕ} {m : ℕ} {f : Bool} {h : Head} (A : Ahead b p m f h) 
   unfolding entry_of
   path-here = refl
 
-  pub reachable : (v : Maybe Path) → Joins (part b h.folder.from h.folder.to) (part b h.name.from h.name.to) v → IsSome v
-  reachable (Some q) J = refl
-  reachable None J = absurd (true≢false (sym (path-short _ A.path) ∙ lt-leb _ 255 (rw path-here at J)))
+  pub reachable : (q : Path) (v : Maybe Unit) → JoinsIn (part b h.folder.from h.folder.to) (part b h.name.from h.name.to) q v → IsSome v
+  reachable q (Some u) J = refl
+  reachable q None J = absurd (true≢false (sym (path-short _ A.path) ∙ lt-leb _ 255 (rw path-here at J)))
 
   module _ {i : ℕ} (H : IsHead b (entry (length b)) i h) {t : List ℕ} (T : t ≡ path_at b h) where
     pub finding-same : {c : Bool} → c ≡ same t p → c ≡ true → Finds b (entries_of b) p (At h.content)

@@ -16,7 +16,6 @@ use Rattle.paths.specs.Paths.{path-long}
 use Rattle.paths.specs.Joined.{text}
 use Rattle.bundle.specs.Find.{Finds, file_at}
 use Rattle.paths.specs.declared.path.Path.{Path}
-use Rattle.bundle.specs.declared.File.{File}
 use Rattle.bundle.specs.declared.Found.{Found}
 use Rattle.bundle.specs.declared.Found.TheVariants.{Absent, Folder, File as At}
 use Rattle.refusal.specs.Numbers.{number}
@@ -33,10 +32,10 @@ abbrev pub OpensWithin : List ℕ → ℕ → Result (Bor (List ℕ)) Refusal �
 OpensWithin t l (Ok s) = (0 < l) × (all ascii t ≡ true) × (s.now ≡ t)
 OpensWithin t l (Err k) = ((l ≡ 0) × (k ≡ Level)) ⊎ ((0 < l) × (all ascii t ≡ false) × (k ≡ Byte))
 
--- A path joined to a folder; or 4 where that is longer than a path may be.
-abbrev pub JoinsWithin : List ℕ → List ℕ → Result Path Refusal → Type 0
-JoinsWithin g p (Ok q) = text q ≡ join g p
-JoinsWithin g p (Err k) = (255 < length (join g p)) × (number k ≡ 4)
+-- A path q is another one, p, joined to a folder g; or 4 where that is longer than a path may be.
+abbrev pub JoinsWithin : List ℕ → List ℕ → Path → Result Unit Refusal → Type 0
+JoinsWithin g p q (Ok u) = text q ≡ join g p
+JoinsWithin g p q (Err k) = (255 < length (join g p)) × (number k ≡ 4)
 
 -- FETCHING: 4, then 5.
 module _ (es : List Entry) (p : List ℕ) {c : Bool} (e : c ≡ is_path p) where

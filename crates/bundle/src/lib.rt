@@ -24,17 +24,17 @@ pub enum Found {
     File(Range),
 }
 
-// A file that a text names: its path, and its text.
+// A file that a text names: its path, which its opener keeps, and its text.
 #[derive(Clone, Copy)]
-pub struct File<'a> {
-    pub path: Path,
+pub struct File<'p, 'a> {
+    pub path: &'p Path,
     pub text: &'a [u8],
 }
 
-impl File<'_> {
+impl File<'_, '_> {
     // The folder of its path.
     pub fn folder(&self) -> &[u8]
-        ensures { result.now ≡ parent (text self.now.path) }
+        ensures { result.now ≡ parent (text self.now.path.now) }
     {
         parent(self.path.as_bytes())
     }
@@ -53,11 +53,11 @@ pub fn open_within(text: &[u8], levels: usize) -> Result<&[u8], Refusal>
     Ok(text)
 }
 
-// Joins a path to a folder: 4 where that is longer than a path may be.
-pub fn joined(folder: &[u8], path: &[u8]) -> Result<Path, Refusal>
-    ensures { JoinsWithin folder.now path.now result }
+// Makes `joined` a path that is joined to a folder: 4 where that is longer than a path may be.
+pub fn join_within(folder: &[u8], path: &[u8], joined: &mut Path) -> Result<(), Refusal>
+    ensures { JoinsWithin folder.now path.now joined.new result }
 {
-    join(folder, path).ok_or(Refusal::Path)
+    joined.join(folder, path).ok_or(Refusal::Path)
 }
 
 // Does p, followed by `/`, begin q?
@@ -114,9 +114,10 @@ impl<'a> Bundle<'a> {
         let b = self.bytes;
         let mut at: usize = 2;
         let mut folder = false;
+        let mut own = Path::empty();
         for done in 0..word(b, 0) {
             let entry = entry_at(b, at).unwrap();
-            let own = path_of(b, entry).unwrap();
+            path_of(b, entry, &mut own).unwrap();
             let here = own.as_bytes();
             if scan::same(here, path) {
                 return Found::File(entry.content);

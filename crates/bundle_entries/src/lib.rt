@@ -6,10 +6,10 @@ ghost use Rattle.rules.specs.Layout.{bit, field_if, byte, word16};
 ghost use Rattle.rules.specs.Bytes.{holds};
 ghost use Rattle.rules.specs.Bundle.{entry};
 ghost use Rattle.scan.specs.Sets.{part, Within};
-ghost use Rattle.paths.specs.Joined.{Joins};
+ghost use Rattle.paths.specs.Joined.{JoinsIn};
 ghost use Rattle.bundle_entries.specs.Entries.{OptionalAt, NameAt, HeadAt, entry_fields};
 
-use paths::{Path, Range, join};
+use paths::{Path, Range};
 use scan::Set;
 use scan::fields::{long_field, short_field};
 
@@ -108,10 +108,10 @@ pub fn entry_at(b: &[u8], at: usize) -> Option<Head>
     fields(b, at + 1, b[at])
 }
 
-// An entry's path; none where it is longer than a path may be.
-pub fn path_of(b: &[u8], h: Head) -> Option<Path>
+// Makes a path that of an entry; none where that is longer than a path may be.
+pub fn path_of(b: &[u8], h: Head, path: &mut Path) -> Option<()>
     requires { Within b.now h.folder × Within b.now h.name }
-    ensures { Joins (part b.now h.folder.from h.folder.to) (part b.now h.name.from h.name.to) result }
+    ensures { JoinsIn (part b.now h.folder.from h.folder.to) (part b.now h.name.from h.name.to) path.new result }
 {
-    join(h.folder.of(b), h.name.of(b))
+    path.join(h.folder.of(b), h.name.of(b))
 }

@@ -49,7 +49,8 @@ impl Walk {
         ensures { Next b.now self.old self.new result }
     {
         let entry = entry_at(b, self.at)?;
-        let path = path_of(b, entry)?;
+        let mut path = Path::empty();
+        path_of(b, entry, &mut path)?;
         self.follow(path)?;
         self.at = entry.content.to;
         Some(())

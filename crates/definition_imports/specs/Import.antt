@@ -34,16 +34,16 @@ use Rattle.imported_names.proofs.Words.{names-line}
 use Rattle.bundle.specs.declared.File.{File}
 use Rattle.definition_imports.specs.declared.Import.{Import}
 
--- The path q, where it keeps the path rule.
-abbrev pub JoinsPath : List ℕ → Result Joined.Path Refusal → Type 0
-JoinsPath q (Ok r) = (text r ≡ q) × (is_path q ≡ true)
-JoinsPath q (Err k) = (is_path q ≡ false) × (number k ≡ 4)
+-- A path r is q, where that keeps the path rule.
+abbrev pub JoinsPath : List ℕ → Joined.Path → Result Unit Refusal → Type 0
+JoinsPath q r (Ok u) = (text r ≡ q) × (is_path q ≡ true)
+JoinsPath q r (Err k) = (is_path q ≡ false) × (number k ≡ 4)
 
 -- What an import comes to in the rules: a refusal; without a file nothing is bound, else the names of the file's sheet are. l: the levels that are left.
 unfoldable pub comes_to : ℕ → View → ℕ → Result (Maybe File) Refusal → Records → Names → Answer Records
 comes_to L v l (Err k) s n = refused (number k)
 comes_to L v l (Ok None) s n = accepted s
-comes_to L v l (Ok (Some f)) s n = file_sheet L v (imported_sheet L v (l - 1)) (parent (text f.path)) f.text.now >>= λ r. bind_names L s r n
+comes_to L v l (Ok (Some f)) s n = file_sheet L v (imported_sheet L v (l - 1)) (parent (text f.path.now)) f.text.now >>= λ r. bind_names L s r n
 
 -- An import of the path q; of the path p, joined to the folder g.
 abbrev pub at_path : View → ℕ → List ℕ → ℕ → Records → Names → Answer Records
@@ -88,8 +88,8 @@ join-long (x ∷ xs) p = omega (arith, length-append (x ∷ xs) (47 ∷ p))
 pub path-over : (g p : List ℕ) → 255 < length p → is_path (join g p) ≡ false
 path-over g p h = sym (path-long (join g p) (omega (arith, join-long g p)))
 
-pub joined-over : (q : List ℕ) {k : Refusal} → (255 < length q) × (number k ≡ 4) → {r : Result Joined.Path Refusal} → r ≡ Err k → JoinsPath q r
-joined-over q h y = rw y (sym (path-long q h.0), h.1)
+pub joined-over : (q : List ℕ) (p : Joined.Path) {k : Refusal} → (255 < length q) × (number k ≡ 4) → {r : Result Unit Refusal} → r ≡ Err k → JoinsPath q p r
+joined-over q p h y = rw y (sym (path-long q h.0), h.1)
 
 -- A path, by what the bundle has there.
 module _ (levels : ℕ) (b : List ℕ) (es : List Entry) (q : List ℕ) where
@@ -123,7 +123,7 @@ module _ (levels : ℕ) (b : List ℕ) (es : List Entry) (q : List ℕ) where
     unfolding Readable comes_to
     open-no O = record { within = tt; says = λ L s n. content L s n ∙ refused-as O L s n }
 
-    pub open-file : {p : Joined.Path} → text p ≡ q → {s : Bor (List ℕ)} → OpensWithin t levels (Ok s) → Opens (view es) levels (at_path (view es) levels q) (Ok (Some (record { path = p; text = s })))
+    pub open-file : {p : Bor Joined.Path} → text p.now ≡ q → {s : Bor (List ℕ)} → OpensWithin t levels (Ok s) → Opens (view es) levels (at_path (view es) levels q) (Ok (Some (record { path = p; text = s })))
     unfolding Readable comes_to
     open-file e O = record {
       within = (O.0, rw O.2 O.1);

@@ -9,36 +9,36 @@ ghost use Rattle.paths.specs.Joined.{text};
 ghost use Rattle.definition_imports.specs.Import.{at_path, named, JoinsPath, IsPath, Opens, IsImport};
 
 use buffers::writer::Writer;
-use bundle::{Bundle, File, Found, open_within};
+use bundle::{Bundle, File, Found, join_within, open_within};
 use paths::{Path, is_path};
 use refusal::Refusal;
 use scan::{Read, Set};
 
 // An import that was read: its file, if there is one, or the refusal that it comes to; and the text from its names on.
 #[derive(Clone, Copy)]
-pub struct Import<'a> {
-    pub file: Result<Option<File<'a>>, Refusal>,
+pub struct Import<'p, 'a> {
+    pub file: Result<Option<File<'p, 'a>>, Refusal>,
     pub names: &'a [u8],
 }
 
-// Joins a path to a folder; refused where that breaks the path rule.
-fn join_path(folder: &[u8], path: &[u8]) -> Result<Path, Refusal>
-    ensures { JoinsPath (join folder.now path.now) result }
+// Makes `joined` a path that is joined to a folder; refused where that breaks the path rule.
+fn join_path(folder: &[u8], path: &[u8], joined: &mut Path) -> Result<(), Refusal>
+    ensures { JoinsPath (join folder.now path.now) joined.new result }
 {
-    let joined = bundle::joined(folder, path)?;
+    join_within(folder, path, joined)?;
     if !is_path(joined.as_bytes()) {
         return Err(Refusal::Path);
     }
-    Ok(joined)
+    Ok(())
 }
 
 // Opens the file that has a path, with so many levels left; none if there is neither file nor folder; 5 for a folder; 7, 6.
-fn open_import<'a>(
+fn open_import<'p, 'a>(
     bundle: &Bundle<'a>,
-    path: Path,
+    path: &'p Path,
     levels: usize,
-) -> Result<Option<File<'a>>, Refusal>
-    ensures { Opens (view (entries_of bundle.now)) levels (at_path (view (entries_of bundle.now)) levels (text path)) result }
+) -> Result<Option<File<'p, 'a>>, Refusal>
+    ensures { Opens (view (entries_of bundle.now)) levels (at_path (view (entries_of bundle.now)) levels (text path.now)) result }
 {
     match bundle.find(path.as_bytes()) {
         Found::Absent => Ok(None),
@@ -50,26 +50,30 @@ fn open_import<'a>(
     }
 }
 
-// Opens the file that an import in a folder names, by the text of its literal, if there was room for that: 4 for a path that breaks the path rule.
-fn named_file<'a>(
+// Opens the file that an import in a folder names, by the text of its literal, if there was room for that, and makes `joined` its path: 4 for one that breaks the
+// path rule.
+fn named_file<'p, 'a>(
     bundle: &Bundle<'a>,
     folder: &[u8],
     path: Result<&[u8], Refusal>,
     levels: usize,
-) -> Result<Option<File<'a>>, Refusal>
+    joined: &'p mut Path,
+) -> Result<Option<File<'p, 'a>>, Refusal>
     ensures { (p : List ℕ) → IsPath p path.entry → Opens (view (entries_of bundle.now)) levels (named (view (entries_of bundle.now)) levels folder.now p) result }
 {
-    let joined = join_path(folder, path?)?;
+    join_path(folder, path?, joined)?;
     open_import(bundle, joined, levels)
 }
 
-// Reads an import of a file in a folder, from behind its mark, and opens the file that it names. Its names hold no newline, so its line ends where theirs does.
-pub fn find_import<'a>(
+// Reads an import of a file in a folder, from behind its mark, and opens the file that it names; `joined` is then its path. Its names hold no newline, so its line
+// ends where theirs does.
+pub fn find_import<'p, 'a>(
     bundle: &Bundle<'a>,
     folder: &[u8],
     text: &'a [u8],
     levels: usize,
-) -> Read<Import<'a>>
+    joined: &'p mut Path,
+) -> Read<Import<'p, 'a>>
     ensures { IsImport (view (entries_of bundle.now)) levels folder.now text.now result }
 {
     let from = scan::span(text, 0, Set::Blank);
@@ -88,7 +92,7 @@ pub fn find_import<'a>(
     let path = read.what.and(Ok(w.text()));
     let names = scan::span(text, from + 1 + read.used, Set::ColonOrBlank);
     let what = Import {
-        file: named_file(bundle, folder, path, levels),
+        file: named_file(bundle, folder, path, levels, joined),
         names: &text[names..],
     };
     let used = scan::find(text, names, b'\n');

@@ -92,7 +92,7 @@ module _ (v : View) (levels : ℕ) (g t : List ℕ) (b : SheetBuffer) where
     import-nothing e = step-kept I.inside b (I.does b.records.now.limit (sheet_in b) ∙ (rw e refl))
 
     -- A file, whose folder is h.
-    module _ {f : File} (e : m.what.file ≡ Ok (Some f)) {h : List ℕ} (p : h ≡ parent (text f.path)) where
+    module _ {f : File} (e : m.what.file ≡ Ok (Some f)) {h : List ℕ} (p : h ≡ parent (text f.path.now)) where
       abbrev Sheet-of : Answer Records
       Sheet-of = file_sheet b.records.now.limit v (imported_sheet b.records.now.limit v (levels - 1)) h f.text.now
 

@@ -19,6 +19,7 @@ use binding::sheet_buffer::SheetBuffer;
 use bundle::Bundle;
 use definition_imports::find_import;
 use imported_names::bind_names;
+use paths::Path;
 use refusal::Refusal;
 use scan::Text;
 use sheet::Sheet;
@@ -78,7 +79,8 @@ fn import_step<'a>(
     ensures over { SameSheet left.old left.new }
     ensures steps { Steps (import_in (view (entries_of bundle.now)) levels folder.now left.old.records.now.limit (sheet_in left.old) text.now) text.now left.new result }
 {
-    let import = find_import(bundle, folder, text, levels);
+    let mut joined = Path::empty();
+    let import = find_import(bundle, folder, text, levels, &mut joined);
     let Some(file) = import.what.file? else {
         return Ok(import.used);
     };

@@ -16,6 +16,7 @@ use marked_files::open_file;
 use marked_files::sources::put_source;
 use marks::next_mark;
 use marks::read::{Reader, Reading};
+use paths::Path;
 use refusal::Refusal;
 
 // Puts what was read at a mark: a copied part, a source's block, or an included file, resolved, and a newline.
@@ -33,7 +34,8 @@ fn put_mark(
         Reading::Copied(part) => w.put(part),
         Reading::Source { path, language } => put_source(bundle, folder, path, language, w),
         Reading::Include(path) => {
-            let file = open_file(bundle, folder, path, levels)?;
+            let mut joined = Path::empty();
+            let file = open_file(bundle, folder, path, levels, &mut joined)?;
             resolve(bundle, file.folder(), file.text, w, levels - 1)?;
             w.put(b"\n")
         }

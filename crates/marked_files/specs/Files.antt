@@ -20,7 +20,7 @@ use Rattle.bundle.specs.declared.File.{File}
 -- An included file with the path p is r: what it comes to, in any folder g, is its text resolved with one level fewer in its own folder f, then a newline.
 pub record IsFile (v : View) (levels : ℕ) (p : List ℕ) (r : File) : Type 0 where
   pub left : 0 < levels
-  pub goes : (g : List ℕ) {f : List ℕ} → f ≡ parent (text r.path) → included v (inside_file v levels) g p (fetch v p) ≡ and_then (emitted (run (include_step v (inside_file v (levels - 1)) f) [] 0 r.text.now)) (put (bytes "\n") ok)
+  pub goes : (g : List ℕ) {f : List ℕ} → f ≡ parent (text r.path.now) → included v (inside_file v levels) g p (fetch v p) ≡ and_then (emitted (run (include_step v (inside_file v (levels - 1)) f) [] 0 r.text.now)) (put (bytes "\n") ok)
 
 -- It is opened, or refused.
 abbrev pub OpensFile : View → ℕ → List ℕ → Result File Refusal → Type 0
@@ -50,5 +50,5 @@ module _ (v : View) (levels : ℕ) (p : List ℕ) where
     file-no (inl h) y = rw (y, h.1) (stopped 7 (ap (λ z. inside_file v z (parent p) t) h.0 ∙ (unfold inside_file in refl)))
     file-no (inr h) y = rw (y, h.2) (stopped 6 (inside_here h.0 ∙ rw h.1 refl))
 
-    pub file_opened : {q : Path} → text q ≡ p → {s : Bor (List ℕ)} → OpensWithin t levels (Ok s) → OpensFile v levels p (Ok (record { path = q; text = s }))
+    pub file_opened : {q : Bor Path} → text q.now ≡ p → {s : Bor (List ℕ)} → OpensWithin t levels (Ok s) → OpensFile v levels p (Ok (record { path = q; text = s }))
     file_opened x h = record { left = h.0; goes = λ g o. unfold included in (rw (e, inside_here h.0, h.1, o, x, h.2) refl) }

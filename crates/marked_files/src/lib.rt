@@ -6,22 +6,27 @@ ghost use Rattle.rules.specs.Files.{view};
 ghost use Rattle.bundle.specs.Find.{entries_of};
 ghost use Rattle.marked_files.specs.Files.{OpensFile};
 
-use bundle::{Bundle, File, joined, open_within};
+use bundle::{Bundle, File, join_within, open_within};
+use paths::Path;
 use refusal::Refusal;
 
 pub mod sources;
 
-// Opens an included file, with so many levels left: 4, 5, 7, 6.
-pub fn open_file<'a>(
+// Opens an included file, with so many levels left, and makes `joined` its path: 4, 5, 7, 6.
+pub fn open_file<'p, 'a>(
     bundle: &Bundle<'a>,
     folder: &[u8],
     path: &[u8],
     levels: usize,
-) -> Result<File<'a>, Refusal>
+    joined: &'p mut Path,
+) -> Result<File<'p, 'a>, Refusal>
     ensures { OpensFile (view (entries_of bundle.now)) levels (join folder.now path.now) result }
 {
-    let path = joined(folder, path)?;
-    let text = bundle.fetch(path.as_bytes())?;
+    join_within(folder, path, joined)?;
+    let text = bundle.fetch(joined.as_bytes())?;
     let opened = open_within(text, levels)?;
-    Ok(File { path, text: opened })
+    Ok(File {
+        path: joined,
+        text: opened,
+    })
 }

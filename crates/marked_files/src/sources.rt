@@ -10,14 +10,16 @@ ghost use Rattle.bundle.specs.Open.{Answers};
 ghost use Rattle.marked_files.specs.Sources.{block_text};
 
 use buffers::writer::Writer;
-use bundle::{Bundle, joined};
+use bundle::{Bundle, join_within};
+use paths::Path;
 use refusal::Refusal;
 
 // Opens a source, from the nearest folder upward that has `CITATION.cff`: 4, 5, 6.
 fn open_source<'a>(bundle: &Bundle<'a>, folder: &[u8], path: &[u8]) -> Result<&'a [u8], Refusal>
     ensures { Answers (opened (view (entries_of bundle.now)) (join (project_root (view (entries_of bundle.now)) folder.now) path.now)) result }
 {
-    let joined = joined(bundle.project_root(folder), path)?;
+    let mut joined = Path::empty();
+    join_within(bundle.project_root(folder), path, &mut joined)?;
     bundle.open_text(joined.as_bytes())
 }
 

@@ -1,6 +1,6 @@
 -- Joining a path to a folder.
 use Rattle.std.specs.Prelude.{◌≡◌, refl, List, [], ◌∷◌, ◌++◌, ℕ, ◌+◌, ◌≤◌, ◌<◌, Option, None, Some, length, take}
-use Rattle.std.proofs.Common.{ap, append_assoc, length-append, length-take-le, arith}
+use Rattle.std.proofs.Common.{ap, ◌∙◌, append_assoc, length-append, length-take-le, arith}
 use Rattle.rules.specs.Reader.{empty}
 use Rattle.rules.specs.Bytes.{join}
 use Rattle.paths.specs.declared.path.Path.{Path}
@@ -13,6 +13,11 @@ text p = take p.len p.bytes
 abbrev pub Pushed : Path → List ℕ → Path → Option Unit → Type 0
 Pushed p more q (Some u) = text q ≡ text p ++ more
 Pushed p more q None = 255 < length (text p ++ more)
+
+-- A path q is another one, p, joined to a folder g, where that has at most 255 bytes.
+abbrev pub JoinsIn : List ℕ → List ℕ → Path → Option Unit → Type 0
+JoinsIn g p q (Some u) = text q ≡ join g p
+JoinsIn g p q None = 255 < length (join g p)
 
 -- A path joined to a folder, where it has at most 255 bytes.
 abbrev pub Joins : List ℕ → List ℕ → Option Path → Type 0
@@ -45,3 +50,8 @@ module _ (g p : List ℕ) where
 
   pub join-length : (length g ≡ 0 → ⊥) → length g + 1 + length p ≡ length (join g p)
   join-length h = omega (arith, ap length (join-below h), length-append (g ++ (47 ∷ [])) p, length-append g (47 ∷ []))
+
+-- A path is put behind what stands before it.
+pub joins-pushed : (g p : List ℕ) (a q : Path) → text a ++ p ≡ join g p → (r : Option Unit) → Pushed a p q r → JoinsIn g p q r
+joins-pushed g p a q e (Some u) h = h ∙ e
+joins-pushed g p a q e None h = rw e at h

@@ -104,11 +104,7 @@ pub fn join(folder: &[u8], path: &[u8]) -> Option<Path>
     ensures { Joins folder.now path.now result }
 {
     let mut joined = Path::empty();
-    if folder.len() != 0 {
-        joined.push(folder)?;
-        joined.push(b"/")?;
-    }
-    joined.push(path)?;
+    joined.join(folder, path)?;
     Some(joined)
 }
 

@@ -11,7 +11,7 @@ pub struct Path {
 }
 
 impl Path {
-    ghost use Rattle.paths.specs.Joined.{text, Pushed};
+    ghost use Rattle.paths.specs.Joined.{text, Pushed, JoinsIn};
 
     // The empty text.
     pub fn empty() -> Path
@@ -37,9 +37,23 @@ impl Path {
         if over {
             return None;
         }
-        let end = self.len + more.len();
-        self.bytes[self.len..end].copy_from_slice(more);
-        self.len = end;
+        let end = self.len;
+        for (i, x) in more.iter().enumerate() {
+            self.bytes[end + i] = *x;
+        }
+        self.len = end + more.len();
         Some(())
+    }
+
+    // Makes the text a path that is joined to a folder; none where that is longer than a path may be.
+    pub fn join(&mut self, folder: &[u8], path: &[u8]) -> Option<()>
+        ensures { JoinsIn folder.now path.now self.new result }
+    {
+        self.len = 0;
+        if folder.len() != 0 {
+            self.push(folder)?;
+            self.push(b"/")?;
+        }
+        self.push(path)
     }
 }

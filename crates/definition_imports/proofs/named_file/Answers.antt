@@ -7,13 +7,13 @@ returns-in_err-path c = λ p h.
     let gone : c.from_residual.result ≡ Err c.in_err-path.field-0.0 = grind arith in
     rw gone (named-long _ _ _ p h c.in_err-path.was)
 
-pub returns-in_err-joined : goal.returns-in_err-joined
-returns-in_err-joined c = λ p h.
-    let gone : c.from_residual-in_err-joined.result ≡ Err c.in_err-joined.field-0.0 = grind arith in
+pub returns-in_err-join_path : goal.returns-in_err-join_path
+returns-in_err-join_path c = λ p h.
+    let gone : c.from_residual-in_err-join_path.result ≡ Err c.in_err-join_path.field-0.0 = grind arith in
     let is : c.in_ok-path.field-0.now ≡ p = rw c.in_ok-path.was at h in
-    rw (gone, ← is) (named-four _ _ _ _ c.in_err-joined.ensures.0 c.in_err-joined.ensures.1)
+    rw (gone, ← is) (named-four _ _ _ _ c.in_err-join_path.ensures.0 c.in_err-join_path.ensures.1)
 
 pub returns : goal.returns
 returns c = λ p h.
     let is : c.in_ok-path.field-0.now ≡ p = rw c.in_ok-path.was at h in
-    rw (← is) (named-file _ _ _ _ c.in_ok-joined.ensures.0 c.in_ok-joined.ensures.1 c.open_import.ensures)
+    rw (← is) (named-file _ _ _ _ c.in_ok-join_path.ensures.0 c.in_ok-join_path.ensures.1 c.open_import.ensures)

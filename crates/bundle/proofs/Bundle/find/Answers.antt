@@ -14,22 +14,22 @@ unwrap-entry-requires c = is-there c.loop-done.invariant (c.word-done-end.result
 pub path_of-requires : goal.path_of-requires
 path_of-requires c = let H = rw c.unwrap-entry.ensures at c.entry_at.ensures in (H.folder, H.name)
 
-pub unwrap-own-requires : goal.unwrap-own-requires
-unwrap-own-requires c =
+pub unwrap-requires : goal.unwrap-requires
+unwrap-requires c =
     let z : c.word-done-end.result - c.loop-done.done ≡ suc (c.word-done-end.result - (c.loop-done.done + 1)) = omega arith in
-    reachable (ahead c.loop-done.invariant z (rw c.unwrap-entry.ensures at c.entry_at.ensures)) _ c.path_of.ensures
+    reachable (ahead c.loop-done.invariant z (rw c.unwrap-entry.ensures at c.entry_at.ensures)) c.path_of.new.path _ c.path_of.ensures
 
 pub returns-then-same : goal.returns-then-same
 returns-then-same c =
     let z : c.word-done-end.result - c.loop-done.done ≡ suc (c.word-done-end.result - (c.loop-done.done + 1)) = omega arith in
     let H = rw c.unwrap-entry.ensures at c.entry_at.ensures in
-    rw (← c.self.view_is) (finding-same (ahead c.loop-done.invariant z H) H (c.as_bytes-here.ensures ∙ (rw c.unwrap-own.ensures at c.path_of.ensures)) c.same.ensures c.if-same.true)
+    rw (← c.self.view_is) (finding-same (ahead c.loop-done.invariant z H) H (c.as_bytes-here.ensures ∙ (rw c.unwrap.ensures at c.path_of.ensures)) c.same.ensures c.if-same.true)
 
 pub loop-done-preserved : goal.loop-done-preserved
 loop-done-preserved c =
     let z : c.word-done-end.result - c.loop-done.done ≡ suc (c.word-done-end.result - (c.loop-done.done + 1)) = omega arith in
     let H = rw c.unwrap-entry.ensures at c.entry_at.ensures in
-    finding-on (ahead c.loop-done.invariant z H) H (c.as_bytes-here.ensures ∙ (rw c.unwrap-own.ensures at c.path_of.ensures)) c.same.ensures c.if-same.false c.above-folder.ensures
+    finding-on (ahead c.loop-done.invariant z H) H (c.as_bytes-here.ensures ∙ (rw c.unwrap.ensures at c.path_of.ensures)) c.same.ensures c.if-same.false c.above-folder.ensures
 
 pub returns-then-folder : goal.returns-then-folder
 returns-then-folder c = rw (← c.self.view_is) (finding-folder c.loop-done.invariant (omega arith) c.if-folder.true)
