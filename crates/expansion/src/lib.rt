@@ -3,6 +3,7 @@
 
 ghost use Rattle.rules.specs.Files.{view};
 ghost use Rattle.bundle.specs.Find.{entries_of};
+ghost use Rattle.buffers.specs.Wrote.{Puts};
 ghost use Rattle.expansion.specs.Run.{Expands};
 
 use binding::sheet_buffer::SheetBuffer;
@@ -11,6 +12,16 @@ use bundle::Bundle;
 use expansion_steps::step::step;
 use refusal::Refusal;
 use scan::Text;
+
+// Puts the text before a step. Most often there is none where a step follows on a step: then no copy is called.
+fn put_before(text: &[u8], w: &mut Writer<'_>) -> Result<(), Refusal>
+    ensures { Puts text.now w.old w.new result }
+{
+    if text.len() == 0 {
+        return Ok(());
+    }
+    w.put(text)
+}
 
 // Expands a text, for the sheet in `left`; is each step whole (section 6)?
 pub fn expand(
@@ -26,7 +37,7 @@ pub fn expand(
     let mut whole = true;
     'steps: loop {
         let at = scan::find(bytes, done, b'#');
-        w.put(&bytes[done..at])?;
+        put_before(&bytes[done..at], w)?;
         if bytes.len() <= at {
             return Ok(whole);
         }

@@ -46,7 +46,28 @@ fn block_len(room: usize, at: usize, lang: Option<usize>, len: Option<usize>) ->
     Some(n)
 }
 
-// Puts the first n bytes of a content between single backticks.
+// Puts the first n bytes of a content. A text that stands somewhere is put as it is: it comes in one piece, and calls that take pieces cost more.
+#[tactic(auto, unfolding(raw_content::specs::Content::content_text))]
+fn put_content(
+    content: Content<'_>,
+    n: usize,
+    sheet: &Sheet<'_>,
+    w: &mut Writer<'_>,
+) -> Result<(), Refusal>
+    ensures { Puts (take n (content_text (resolve (records_of sheet.now)) content.entry)) w.old w.new result }
+{
+    if let Content::Text(text) = content {
+        return w.put(&text[..n.min(text.len())]);
+    }
+    let mut to = PieceWriter {
+        to: w,
+        outcome: Ok(()),
+    };
+    content.put_first(sheet, n, &mut to);
+    to.outcome
+}
+
+// Puts the first n bytes of a content between single backticks. Each of these is put as a byte: as a piece it would be copied by a call.
 fn put_line(
     content: Content<'_>,
     n: usize,
@@ -55,14 +76,9 @@ fn put_line(
 ) -> Result<(), Refusal>
     ensures { Puts (line_of (take n (content_text (resolve (records_of sheet.now)) content.entry))) w.old w.new result }
 {
-    let mut to = PieceWriter {
-        to: w,
-        outcome: Ok(()),
-    };
-    to.take(b"`");
-    content.put_first(sheet, n, &mut to);
-    to.take(b"`");
-    to.outcome
+    w.put_byte(b'`')?;
+    put_content(content, n, sheet, w)?;
+    w.put_byte(b'`')
 }
 
 // Puts the first n bytes of a content as a block.
