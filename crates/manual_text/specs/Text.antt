@@ -19,7 +19,6 @@ use Rattle.buffers.specs.Wrote.{first_bytes}
 use Rattle.refusals.specs.Text.{Leaves}
 use Rattle.rules.proofs.Laws.Parts.{result_numbered}
 use Rattle.refusal.specs.declared.Refusal.{Refusal}
-use Rattle.refusal.specs.declared.Refusal.TheVariants.{Work, Bundle, Sheet, Path, File, Byte, Level, Stalled, Limit, Middle, Output}
 use Rattle.refusal.specs.Numbers.{number}
 
 -- What follows the definitions, from the sheet s on.
@@ -37,24 +36,10 @@ answered-accepted : (k : ℕ) (r : List ℕ) → k ≡ 0 → answered k r ≡ ac
 unfolding answered
 answered-accepted k r h = rw h refl
 
--- No number of a refusal is 0.
-number-not-zero : (e : Refusal) → number e ≡ 0 → ⊥
-number-not-zero Work h = omega arith
-number-not-zero Bundle h = omega arith
-number-not-zero Sheet h = omega arith
-number-not-zero Path h = omega arith
-number-not-zero File h = omega arith
-number-not-zero Byte h = omega arith
-number-not-zero Level h = omega arith
-number-not-zero Stalled h = omega arith
-number-not-zero Limit h = omega arith
-number-not-zero Middle h = omega arith
-number-not-zero Output h = omega arith
-
-answered-refused : (k : ℕ) (t : List ℕ) (r : Refusal) → k ≡ number r → answered k t ≡ refused (number r)
+answered-refused : (k : ℕ) (t : List ℕ) (r : Refusal) → (k ≡ number r) × (0 < k) → answered k t ≡ refused (number r)
 unfolding answered
-answered-refused zero t r h = absurd (number-not-zero r (sym h))
-answered-refused (suc k) t r h = ap refused h
+answered-refused zero t r h = absurd (omega (arith, h.1))
+answered-refused (suc k) t r h = ap refused h.0
 
 -- Nothing is built.
 pub builds-refused : {a : Answer (List ℕ)} {out out₂ : List ℕ} {e : Refusal} → length out₂ ≡ length out → a ≡ refused (number e) → Builds a out out₂ (Err e)
@@ -85,7 +70,7 @@ module _ (b t s : List ℕ) {m n l : ℕ} (o : List ℕ) {m₂ o₂ l₂ : List 
   pass_output : Holds n x o₂
   pass_output = rw e at (pass_holds (record { bundle = b; folder = []; middle_len = m; out_len = n; left_len = l }) s t).output
 
-  pub pass_refused : (r : Refusal) → k ≡ number r → Builds (output_from (pass_of (setting b) s t)) o o₂ (Err r)
+  pub pass_refused : (r : Refusal) → (k ≡ number r) × (0 < k) → Builds (output_from (pass_of (setting b) s t)) o o₂ (Err r)
   pass_refused r h = builds-refused (pass_output.size ∙ e₄) (pass_says ∙ answered-refused k _ r h)
 
   pub pass_builds : k ≡ 0 → Builds (output_from (pass_of (setting b) s t)) o o₂ (Ok x)
@@ -109,9 +94,9 @@ module _ (b s : List ℕ) {k kind i n : ℕ} (f : find_file_of b (bytes "main.ty
   pub found-known : k ≤ 11
   found-known = at-most-11 k (rw f at (find_known b (bytes "main.typ")))
 
-  pub main_refused : (r : Refusal) → k ≡ number r → main_text b s ≡ refused (number r)
+  pub main_refused : (r : Refusal) → (k ≡ number r) × (0 < k) → main_text b s ≡ refused (number r)
   unfolding ◌>>=◌
-  main_refused r h = as_found ∙ ap Then (content-refused b _ (λ z. number-not-zero r (sym h ∙ z))) ∙ ap refused h
+  main_refused r h = as_found ∙ ap Then (content-refused b _ (λ z. omega (arith, h.1))) ∙ ap refused h.0
 
   module _ (e : k ≡ 0) where
     pub main_absent : (kind ≡ 2 → ⊥) → main_text b s ≡ refused 5
@@ -142,7 +127,7 @@ module _ (b : List ℕ) where
     unfolding parse_definitions_of defined_answer
     defined-known = at-most-11 k (rw e at (number_form (defined_answer l w) (λ r. r.number) (λ k. refl) (λ a. refl) (parse_definitions_result b (bytes "defs.typ") l w) (parse_definitions_numbered b (bytes "defs.typ") l w)))
 
-    pub built-refused : (r : Refusal) → k ≡ number r → built b ≡ refused (number r)
+    pub built-refused : (r : Refusal) → (k ≡ number r) × (0 < k) → built b ≡ refused (number r)
     unfolding ◌>>=◌
     built-refused r h = as_defined ∙ ap (λ a. a >>= main_text b) (answered-refused k (take n s) r h)
 

@@ -1,7 +1,7 @@
 // The refusals (document 01, section 8), each with its number.
 #![tactic(auto)]
 
-ghost use Rattle.std.specs.Prelude.{◌≡◌, ◌≤◌, MatchResult};
+ghost use Rattle.std.specs.Prelude.{◌≡◌, ◌≤◌, ◌<◌, MatchResult};
 ghost use Rattle.refusal.specs.Numbers.{number};
 
 // Why a call is refused.
@@ -58,7 +58,7 @@ impl Refusal {
     // A call's number as a result: 0 where it is accepted, else its refusal.
     pub fn check(n: u8) -> Result<(), Refusal>
         requires { n ≤ 11 }
-        ensures { MatchResult result (λ _. n ≡ 0) (λ refusal. n ≡ number refusal) }
+        ensures { MatchResult result (λ _. n ≡ 0) (λ refusal. (n ≡ number refusal) × (0 < n)) }
     {
         match n {
             0 => Ok(()),

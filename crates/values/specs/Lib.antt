@@ -1,3 +1,4 @@
 pub mod Slots
 pub mod Values
 pub mod Dictionary
+pub mod Lent
