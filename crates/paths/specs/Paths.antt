@@ -331,7 +331,7 @@ trim-first (x ∷ xs) = at (blank x && empty (trim_end xs)) refl (trim-first xs)
     at false e ih = let z = trim_end-cons x xs false e in ap (λ y. take (length y) (x ∷ xs)) z ∙ ap (λ y. x ∷ y) ih ∙ sym z
 
 -- Behind n bytes there are blanks alone.
-record Trimming (t : List ℕ) (n : ℕ) : Type 0 where
+pub record Trimming (t : List ℕ) (n : ℕ) : Type 0 where
   pub inside : n ≤ length t
   pub rest : trim_end t ≡ trim_end (take n t)
 
