@@ -36,6 +36,7 @@ pub enum Refusal {
 impl From<Refusal> for u8 {
     ghost from_gives = { λ refusal n. n ≡ number refusal };
 
+    #[tactic(auto, unfolding(crate::specs::Numbers::told))]
     fn from(refusal: Refusal) -> u8 {
         match refusal {
             Refusal::Work => 1,
