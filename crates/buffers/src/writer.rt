@@ -45,7 +45,7 @@ impl<'a> Writer<'a> {
         Ok(())
     }
 
-    // Puts one byte. As a text of one byte it would be copied by a call.
+    // Puts one byte. As a text of one byte it would be copied by a loop.
     pub fn put_byte(&mut self, x: u8) -> Result<(), Refusal>
         ensures { Puts (x ∷ []) self.old self.new result }
     {

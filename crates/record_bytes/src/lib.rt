@@ -149,7 +149,8 @@ fn move_up(buf: &mut [u8], from: usize, end: usize, to: usize)
     }
 }
 
-// Moves the bytes from a place up to another to a third.
+// Moves the bytes from a place up to another to a third. By loops, since copy_within is compiled as a call of memmove, which the library needs for nothing
+// else; 32 bytes move at a time here, too. What a value of the same length leaves in its place is not copied onto itself.
 pub fn shift(buf: &mut [u8], from: usize, end: usize, to: usize)
     requires { (from ≤ end) × (end ≤ length buf.old) × (to + (end - from) ≤ length buf.old) }
     ensures { buf.new ≡ sets buf.old to (part buf.old from end) }
