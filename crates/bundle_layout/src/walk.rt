@@ -29,8 +29,8 @@ impl Walk {
     }
 
     // One path more; none where it breaks a rule.
-    fn follow(&mut self, path: Path) -> Option<()>
-        ensures { Follows self.old path self.new result }
+    fn follow(&mut self, path: &Path) -> Option<()>
+        ensures { Follows self.old path.now self.new result }
     {
         let last = self.last.as_bytes();
         let next = path.as_bytes();
@@ -40,7 +40,7 @@ impl Walk {
             return None;
         }
         mark(&mut self.files, k, n);
-        self.last = path;
+        self.last = *path;
         Some(())
     }
 
@@ -51,7 +51,7 @@ impl Walk {
         let entry = entry_at(b, self.at)?;
         let mut path = Path::empty();
         path_of(b, entry, &mut path)?;
-        self.follow(path)?;
+        self.follow(&path)?;
         self.at = entry.content.to;
         Some(())
     }

@@ -66,7 +66,8 @@ fn named_file<'p, 'a>(
 }
 
 // Reads an import of a file in a folder, from behind its mark, and opens the file that it names; `joined` is then its path. Its names hold no newline, so its line
-// ends where theirs does.
+// ends where theirs does. Not inlined, since the bytes of its literal would stand on the stack at every level of imports.
+#[inline(never)]
 pub fn find_import<'p, 'a>(
     bundle: &Bundle<'a>,
     folder: &[u8],

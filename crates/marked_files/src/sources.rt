@@ -45,7 +45,8 @@ fn put_block(lang: &[u8], content: &[u8], w: &mut Writer<'_>) -> Result<(), Refu
     put_end(content, w)
 }
 
-// Opens a source and puts its block.
+// Opens a source and puts its block. Not inlined, since its paths would stand on the stack at every level of includes.
+#[inline(never)]
 pub fn put_source(
     bundle: &Bundle<'_>,
     folder: &[u8],
