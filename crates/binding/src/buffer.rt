@@ -52,7 +52,9 @@ impl<'a> RecordBuffer<'a> {
         Ok(())
     }
 
-    // Plans the binding of a name to a value of these many bytes, unless the records would be over their limit.
+    // Plans the binding of a name to a value of these many bytes, unless the records would be over their limit. Inlined, since every binding begins with
+    // it: called, its plan is cleared, filled and read again in memory.
+    #[inline(always)]
     fn find_room(&self, name: Name<'_>, lead: Lead, len: usize) -> Result<Room, Refusal>
         requires { InOrder self.now }
         ensures { Plans self.now (asked name.entry) lead len result }

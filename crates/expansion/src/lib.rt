@@ -13,7 +13,7 @@ use expansion_steps::step::step;
 use refusal::Refusal;
 use scan::Text;
 
-// Puts the text before a step. Most often there is none where a step follows on a step: then no copy is called.
+// Puts the text before a step. Where a step follows on another there is none, and the writer is not called: it would copy nothing.
 fn put_before(text: &[u8], w: &mut Writer<'_>) -> Result<(), Refusal>
     ensures { Puts text.now w.old w.new result }
 {

@@ -46,7 +46,7 @@ fn block_len(room: usize, at: usize, lang: Option<usize>, len: Option<usize>) ->
     Some(n)
 }
 
-// Puts the first n bytes of a content. A text that stands somewhere is put as it is: it comes in one piece, and calls that take pieces cost more.
+// Puts the first n bytes of a content. A text that stands somewhere is one piece, which the writer puts without the reader that hands pieces on.
 #[tactic(auto, unfolding(raw_content::specs::Content::content_text))]
 fn put_content(
     content: Content<'_>,
@@ -67,7 +67,7 @@ fn put_content(
     to.outcome
 }
 
-// Puts the first n bytes of a content between single backticks. Each of these is put as a byte: as a piece it would be copied by a call.
+// Puts the first n bytes of a content between single backticks. Each backtick is put as a byte: as a piece it would be stored by a call.
 fn put_line(
     content: Content<'_>,
     n: usize,
