@@ -49,12 +49,14 @@ impl<'a> Writer<'a> {
     pub fn put_byte(&mut self, x: u8) -> Result<(), Refusal>
         ensures { Puts (x ∷ []) self.old self.new result }
     {
-        if self.at < self.out.len() {
-            self.out[self.at] = x;
-        } else if self.room <= self.at {
+        // The place is read once, as the byte that is stored might be the writer's own, for all that the compiler knows.
+        let at = self.at;
+        if at < self.out.len() {
+            self.out[at] = x;
+        } else if self.room <= at {
             return Err(self.full);
         }
-        self.at += 1;
+        self.at = at + 1;
         Ok(())
     }
 
