@@ -24,7 +24,7 @@ pub enum Found {
     File(Range),
 }
 
-// A file that a text names: its path, which its opener keeps, and its text.
+// A file that a text names: its path, which the caller that has it opened owns, and its text.
 #[derive(Clone, Copy)]
 pub struct File<'p, 'a> {
     pub path: &'p Path,
