@@ -49,7 +49,7 @@ impl<'a> Writer<'a> {
     pub fn put_byte(&mut self, x: u8) -> Result<(), Refusal>
         ensures { Puts (x ∷ []) self.old self.new result }
     {
-        // The place is read once, as the byte that is stored might be the writer's own, for all that the compiler knows.
+        // The place is read once: behind the store the compiler would read it again.
         let at = self.at;
         if at < self.out.len() {
             self.out[at] = x;
