@@ -171,6 +171,7 @@ pub fn text_place(found: Option<Found>) -> Range
 {
     match found.unwrap_or(Found::Nothing) {
         Found::Text(text) => text,
-        _ => Range { from: 0, to: 0 },
+        Found::Nothing => Range { from: 0, to: 0 },
+        Found::Dictionary { .. } => Range { from: 0, to: 0 },
     }
 }
