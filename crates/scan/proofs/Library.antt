@@ -1,18 +1,17 @@
 -- What the library's methods of a slice say, in the words of the rules.
-use Rattle.std.specs.Prelude.{◌≡◌, refl, List, [], ◌∷◌, Bool, true, false, not, ◌&&◌, ◌||◌, ltb, eqb, ℕ, zero, suc, ◌+◌, ◌-◌, ◌≤◌, ◌<◌, length, take, drop, get_or, min, cond, Option, None, Some, MatchBool, MatchOption}
-use Rattle.std.specs.List.{list_all, list_any, prefix_len, position_or_len}
+use Rattle.std.specs.Prelude.{◌≡◌, refl, List, [], ◌∷◌, Bool, true, false, not, ◌&&◌, ◌||◌, ltb, eqb, ℕ, zero, suc, ◌+◌, ◌-◌, ◌≤◌, ◌<◌, length, take, drop, get_or, min, cond, Option, None, Some, MatchOption}
+use Rattle.std.specs.List.{fold, list_all, list_any, prefix_len, position_or_len}
 use Rattle.std.specs.Cmp.Lexicographic.{pointwise}
 use Rattle.std.specs.Option.{option_eq}
 use Rattle.std.specs.Slice.{IsItemAt}
-use Rattle.std.specs.Str.{IsAscii, IsNotAscii}
 use Rattle.std.proofs.Common.{Bor, sym, ap, true≢false, ◌∙◌, arith, add-one, add-zero, length-drop, drop-cons, drop-drop}
+use Rattle.std.proofs.Math.Bool.{and_assoc}
 use Rattle.std.proofs.Math.Dec.{eqb-suc-suc}
 use Rattle.std.proofs.Math.Decide.{dec_le}
 use Rattle.std.proofs.lemmas.List.Sums.{prefix_len-le-length}
-use borrow.Author.Tests.{lt-ltb, ltb-true, ltb-false, ne_eqb}
+use borrow.Author.Tests.{ltb-false, ne_eqb}
 use Rattle.rules.specs.Reader.{all, span, prefix, same}
-use Rattle.rules.specs.Bytes.{ascii}
-use Rattle.rules.proofs.Laws.Bool.{and_l, and_r, and_i, not-true}
+use Rattle.rules.proofs.Laws.Bool.{and_l, and_r, and_i}
 use Rattle.scan.specs.Sets.{Spans, Sees, Skips, byte_is, not_byte}
 use Rattle.scan.specs.Laws.{Spanning, spanning-on, seen, sees-is, sees-end, skips-at, skips-end, tail-part}
 
@@ -97,21 +96,12 @@ module _ (c : ℕ) (t : List ℕ) (i : ℕ) (h : i ≤ length t) where
       go true e = cc
       go false e = refl
 
--- `is_ascii`.
-ascii-all : (t : List ℕ) → IsAscii t → all ascii t ≡ true
-unfolding all ascii
-ascii-all [] h = refl
-ascii-all (x ∷ xs) h = and_i (ltb x 128) (all ascii xs) (lt-ltb x 128 (h 0)) (ascii-all xs (λ i. h (suc i)))
-
-ascii-not : (t : List ℕ) → IsNotAscii t → all ascii t ≡ true → ⊥
-unfolding all ascii
-ascii-not [] (i, h) e = omega arith
-ascii-not (x ∷ xs) (zero, h) e = let z = ltb-true x 128 (and_l (ltb x 128) (all ascii xs) e) in omega arith
-ascii-not (x ∷ xs) (suc i, h) e = ascii-not xs (i, h) (and_r (ltb x 128) (all ascii xs) e)
-
-pub ascii-is : (t : List ℕ) (r : Bool) → MatchBool r (IsAscii t) (IsNotAscii t) → r ≡ all ascii t
-ascii-is t true h = sym (ascii-all t h)
-ascii-is t false h = sym (not-true (all ascii t) (ascii-not t h))
+-- `fold`: all bytes, each looked at.
+pub fold-all : (p : ℕ → Bool) (t : List ℕ) (b : Bool) → fold (λ c x. c && p x) b t ≡ (b && all p t)
+unfolding all
+fold-all p [] true = refl
+fold-all p [] false = refl
+fold-all p (x ∷ xs) b = fold-all p xs (b && p x) ∙ and_assoc b (p x) (all p xs)
 
 -- `get`: the byte at a place, if there is one, and what is said of it.
 pub get-sees : (p : ℕ → Bool) (t : List ℕ) (i : ℕ) (o : Option (Bor ℕ)) (r : Bool) {Q : Bor ℕ → Type 0} → IsItemAt t i o → MatchOption o (r ≡ false) Q → ((x : Bor ℕ) → Q x → r ≡ p x.now) → Sees p t i r
