@@ -21,12 +21,13 @@ use Rattle.rules.specs.Calls.{limit, preprocess_typst_result}
 use Rattle.bundle.specs.Find.{entries_of}
 use Rattle.buffers.specs.declared.writer.Writer.{Writer}
 use Rattle.buffers.specs.Emits.{guarded, limited-guarded}
-use Rattle.buffers.specs.Wrote.{Wrote, Begins, Stands, first_bytes, stands-ok, stands-no}
+use Rattle.buffers.specs.Wrote.{Begins, Stands, first_bytes, stands-ok, stands-no}
 use Rattle.sheet.specs.Records.{records_of}
 use Rattle.binding.specs.declared.sheet_buffer.SheetBuffer.{SheetBuffer}
+use Rattle.binding.specs.Buffer.{bytes_in}
 use Rattle.binding.specs.Sheets.{sheet_in}
 use Rattle.expansion.specs.Run.{Expands}
-use Rattle.runs.specs.Sheets.{Starts}
+use Rattle.runs.specs.Sheets.{Stored}
 use Rattle.runs.specs.declared.expansion_call.Expanded.{Expanded}
 use Rattle.arguments.specs.Given.{given, given-then, GoodArguments, good-given}
 
@@ -45,38 +46,41 @@ pub record ExpandsFrom (v : View) (t z out out₂ left left₂ : List ℕ) (r : 
   pub is : MatchResult r (λ e. Results (expanded v (limit (length left)) (length out) (records_of z) t) out₂ left₂ e.len e.sheet × (all_whole (expansion v (records_of z) t) ≡ e.whole)) (λ k. expanded v (limit (length left)) (length out) (records_of z) t ≡ refused (number k))
 
 -- LAWS. The ways through it. The writer begins at the start of its buffer, and the sheet stands at the start of its own; c, m: the buffers, when they are let go.
-module _ {v : View} {t z : List ℕ} {out : MutBor (List ℕ)} {w w₂ : Writer} (b : Begins out Output w) {left : MutBor (List ℕ)} {L : ℕ} (q : L ≡ limit (length left.now)) {s s₂ : SheetBuffer} (S : Starts left L z s.records.now) {r : Result Bool Refusal} (E : Expands v t w w₂ s s₂ r) {c m : List ℕ} (o : c ≡ w₂.out.now) (l : m ≡ s₂.records.now.bytes.now) where
+module _ {v : View} {t : List ℕ} {out : MutBor (List ℕ)} {w w₂ : Writer} (b : Begins out Output w) {s s₂ : SheetBuffer} {r : Result Bool Refusal} (E : Expands v t w w₂ s s₂ r) (q : s.records.now.limit ≡ limit (length s.records.now.bytes.now)) {c m : List ℕ} (o : c ≡ w₂.out.now) (l : m ≡ s₂.records.now.bytes.now) where
+  abbrev left : List ℕ
+  left = s.records.now.bytes.now
+
   abbrev Trace : Steps Records
-  Trace = expansion v (records_of z) t
+  Trace = expansion v (sheet_in s) t
 
   abbrev Later : Answer (List ℕ) → Answer (List ℕ × Records)
   Later a = ◌>>=◌ {B = List ℕ × Records} a (λ o. accepted (o, final Trace))
 
-  in_writing : expanded v (limit (length left.now)) (length out.now) (records_of z) t ≡ Later (write 11 (length out.now) (guarded sheet_length L Trace))
-  unfolding expanded
-  in_writing = ap (λ k. expanded v k (length out.now) (records_of z) t) (sym q) ∙ limited-guarded sheet_length L 11 Trace (length out.now)
+  abbrev Writing : Answer (List ℕ)
+  Writing = write 11 (length out.now) (guarded sheet_length s.records.now.limit Trace)
 
-  wrote : Wrote (guarded sheet_length L Trace) w w₂ r
-  wrote = rw (S.limits, S.bytes) at E.wrote
+  in_writing : expanded v (limit (length left)) (length out.now) (sheet_in s) t ≡ Later Writing
+  unfolding expanded
+  in_writing = ap (λ k. expanded v k (length out.now) (sheet_in s) t) (sym q) ∙ limited-guarded sheet_length s.records.now.limit 11 Trace (length out.now)
 
   out_size : length c ≡ length out.now
-  out_size = ap length o ∙ wrote.emits.size ∙ ap (λ x. length x.now) b.same
+  out_size = ap length o ∙ E.wrote.emits.size ∙ ap (λ x. length x.now) b.same
 
-  left_size : length m ≡ length left.now
-  left_size = ap length l ∙ E.over.over.long ∙ S.long
+  left_size : length m ≡ length left
+  left_size = ap length l ∙ E.over.over.long
 
-  pub from-stopped : {k : Refusal} → r ≡ Err k → {p : Result Expanded Refusal} → p ≡ Err k → ExpandsFrom v t z out.now c left.now m p
+  pub from-stopped : {k : Refusal} → r ≡ Err k → {p : Result Expanded Refusal} → p ≡ Err k → ExpandsFrom v t (bytes_in s.records.now) out.now c left m p
   unfolding first_bytes ◌>>=◌
   from-stopped {k} e h =
-      let d : Stands 11 (length out.now) (guarded sheet_length L Trace) w₂.out.now (Err k) = stands-no b wrote refl e refl in
+      let d : Stands 11 (length out.now) (guarded sheet_length s.records.now.limit Trace) w₂.out.now (Err k) = stands-no b E.wrote refl e refl in
       rw h (record { out-size = out_size; left-size = left_size; is = in_writing ∙ ap Later d.is })
 
   -- n: the sheet's length.
-  pub from-done : {x : Bool} → r ≡ Ok x → {n : ℕ} → n ≡ s₂.records.now.len → ExpandsFrom v t z out.now c left.now m (Ok (record { len = w₂.at; sheet = n; whole = x }))
+  pub from-done : {x : Bool} → r ≡ Ok x → {n : ℕ} → n ≡ s₂.records.now.len → ExpandsFrom v t (bytes_in s.records.now) out.now c left m (Ok (record { len = w₂.at; sheet = n; whole = x }))
   unfolding first_bytes ◌>>=◌
   from-done {x} e {n} j =
-      let d : Stands 11 (length out.now) (guarded sheet_length L Trace) c (Ok w₂.at) = stands-ok b wrote o e in
-      let g : (all_whole Trace ≡ x) × (sheet_in s₂ ≡ final Trace) = rw S.bytes at (rw e at E.goes) in
+      let d : Stands 11 (length out.now) (guarded sheet_length s.records.now.limit Trace) c (Ok w₂.at) = stands-ok b E.wrote o e in
+      let g : (all_whole Trace ≡ x) × (sheet_in s₂ ≡ final Trace) = rw e at E.goes in
       let k = s₂.records.now in
       record {
         out-size = out_size;
@@ -92,6 +96,10 @@ module _ {v : View} {t z : List ℕ} {out : MutBor (List ℕ)} {w w₂ : Writer}
           g.0,
         );
       }
+
+-- What is expanded for a sheet that was stored is expanded for that sheet.
+pub from-stored : {v : View} {t z out out₂ l m left₂ : List ℕ} {n k : ℕ} {r : Result Expanded Refusal} → Stored l m z n → k ≡ n → ExpandsFrom v t (take k m) out out₂ m left₂ r → ExpandsFrom v t z out out₂ l left₂ r
+from-stored S e E = record { out-size = E.out-size; left-size = E.left-size ∙ S.long; is = rw (e, S.is, S.long) at E.is }
 
 -- THE CALL, before its buffers are cleared: the results stand at their starts, or it is refused.
 pub record ExpandsText (bundle text sheet out out₂ left left₂ : List ℕ) (r : Result Expanded Refusal) : Type 0 where

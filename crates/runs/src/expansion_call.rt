@@ -1,7 +1,7 @@
 // The expansion call (01, section 5).
 ghost use Rattle.runs.specs.Expansion.{ExpandsText};
 
-use crate::expand_from;
+use crate::{expand_from, store_sheet};
 use arguments::{check, sheet_limit};
 use refusal::Refusal;
 use scan::Text;
@@ -25,5 +25,6 @@ pub fn preprocess_typst(
     ensures { ExpandsText bundle.now text.now sheet.now out.old out.new left.old left.new result }
 {
     let given = check(bundle, b"", text, sheet, sheet_limit(left.len()))?;
-    expand_from(&given.bundle, &Text::new(text), &given.sheet, out, left)
+    let len = store_sheet(left, &given.sheet);
+    expand_from(&given.bundle, &Text::new(text), out, left, len)
 }

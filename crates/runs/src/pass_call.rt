@@ -3,7 +3,7 @@ ghost use Rattle.std.specs.Prelude.{◌≡◌};
 ghost use Rattle.rules.specs.Run.{ends_in_newline};
 ghost use Rattle.runs.specs.Pass.{Passes};
 
-use crate::expand_from;
+use crate::{expand_from, store_sheet};
 use arguments::{check, sheet_limit};
 use buffers::writer::Writer;
 use includes::resolve;
@@ -44,13 +44,8 @@ pub fn pass(
     let mut first = Writer::new(middle, Refusal::Middle);
     let whole = resolve(&given.bundle, folder, text, &mut first, 6)?;
     let end = first.at;
-    let ran = expand_from(
-        &given.bundle,
-        &Text::new(&middle[..end]),
-        &given.sheet,
-        out,
-        left,
-    )?;
+    let len = store_sheet(left, &given.sheet);
+    let ran = expand_from(&given.bundle, &Text::new(&middle[..end]), out, left, len)?;
     Ok(Passed {
         len: ran.len,
         sheet: ran.sheet,
