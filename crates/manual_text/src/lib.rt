@@ -46,8 +46,10 @@ fn build(bundle: &[u8], out: &mut [u8; 32768]) -> Result<usize, Refusal>
     let mut sheet = [0; 1024];
     let mut work = [0; 16384];
     let d = builder::parse_definitions(bundle, b"defs.typ", &mut sheet, &mut work);
-    Refusal::check(d.number)?;
-    pass_main(bundle, &sheet[..d.sheet], out)
+    match Refusal::check(d.number) {
+        Err(refusal) => Err(refusal),
+        Ok(()) => pass_main(bundle, &sheet[..d.sheet], out),
+    }
 }
 
 // What `manual` writes for a bundle: so many bytes at the start of `out`, and zero behind them.

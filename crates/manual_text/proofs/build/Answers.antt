@@ -1,5 +1,4 @@
 use Rattle.std.proofs.Common.{refl, rules, sym, length-take-le}
-use Rattle.std.proofs.lemmas.Result.{err_from_is_err_and}
 use Rattle.manual_text.specs.Text.{builds-refused, builds-same, built-long, defined-known, built-refused, built_main, sheet-fits}
 use Rattle.manual_text.proofs.build.Goals as goal
 
@@ -9,8 +8,8 @@ returns-then-bundle-gt16384 c = builds-refused refl (built-long _ c.if-bundle-gt
 pub check-requires : goal.check-requires
 check-requires c = defined-known _ (search rules) (search rules) (search rules) c.parse_definitions-d.ensures
 
-pub returns-in_err-check : goal.returns-in_err-check
-returns-in_err-check c = let p = err_from_is_err_and c.from_residual.result c.from_residual.ensures.1 in rw (p.1, p.2) (builds-refused refl (built-refused _ (search rules) (search rules) (search rules) c.parse_definitions-d.ensures _ c.in_err-check.ensures))
+pub returns-in-Err : goal.returns-in-Err
+returns-in-Err c = builds-refused refl (built-refused _ (search rules) (search rules) (search rules) c.parse_definitions-d.ensures _ c.in-Err.ensures)
 
 pub slice_bounds-sheet-end : goal.slice_bounds-sheet-end
 slice_bounds-sheet-end c = sheet-fits _ (search rules) (search rules) (search rules) c.parse_definitions-d.ensures
@@ -18,5 +17,5 @@ slice_bounds-sheet-end c = sheet-fits _ (search rules) (search rules) (search ru
 pub slice_bounds-pass_main-end : goal.slice_bounds-pass_main-end
 slice_bounds-pass_main-end c = sym (length-take-le _ _ (sheet-fits _ (search rules) (search rules) (search rules) c.parse_definitions-d.ensures))
 
-pub returns : goal.returns
-returns c = builds-same (built_main _ (search rules) (search rules) (search rules) c.parse_definitions-d.ensures c.in_ok-check.ensures) c.pass_main.ensures
+pub returns-in-Ok : goal.returns-in-Ok
+returns-in-Ok c = builds-same (built_main _ (search rules) (search rules) (search rules) c.parse_definitions-d.ensures c.in-Ok.ensures) c.pass_main.ensures
