@@ -25,7 +25,9 @@ pub struct Given<'a> {
     pub sheet: Sheet<'a>,
 }
 
-// The bundle and the sheet, where the arguments keep the rules. Refused: 2, 3, 4, 6, and 9 for the sheet.
+// The bundle and the sheet, where the arguments keep the rules. Refused: 2, 3, 4, 6, and 9 for the sheet. Inlined: else a
+// third of a call with a short text is the handing over of what it answers.
+#[inline(always)]
 pub fn check<'a>(
     bundle: &'a [u8],
     folder: &[u8],
