@@ -25,8 +25,8 @@ pub struct Given<'a> {
     pub sheet: Sheet<'a>,
 }
 
-// The bundle and the sheet, where the arguments keep the rules. Refused: 2, 3, 4, 6, and 9 for the sheet. Inlined: else a
-// third of a call with a short text is the handing over of what it answers.
+// The bundle and the sheet, where the arguments keep the rules. Refused: 2, 3, 4, 6, and 9 for the sheet. Inlined: else what
+// it answers goes through memory, some 80 instructions a call.
 #[inline(always)]
 pub fn check<'a>(
     bundle: &'a [u8],
