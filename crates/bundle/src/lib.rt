@@ -8,6 +8,7 @@ ghost use Rattle.rules.specs.Answer.{is_some};
 ghost use Rattle.rules.specs.Files.{view, fetch, opened, has_citation, project_root};
 ghost use Rattle.paths.specs.Joined.{text};
 ghost use Rattle.bundle.specs.Find.{Finds, entries_of};
+ghost use Rattle.refusal.specs.Numbers.{Listed};
 ghost use Rattle.bundle.specs.Open.{Answers, JoinsWithin, OpensWithin, there};
 
 use bundle_entries::{entry_at, path_of};
@@ -55,7 +56,8 @@ pub fn open_within(text: &[u8], levels: usize) -> Result<&[u8], Refusal>
 
 // Makes `joined` a path that is joined to a folder: 4 where that is longer than a path may be.
 pub fn join_within(folder: &[u8], path: &[u8], joined: &mut Path) -> Result<(), Refusal>
-    ensures { JoinsWithin folder.now path.now joined.new result }
+    ensures joins { JoinsWithin folder.now path.now joined.new result }
+    ensures listed { Listed result }
 {
     joined.join(folder, path).ok_or(Refusal::Path)
 }
@@ -133,7 +135,8 @@ impl<'a> Bundle<'a> {
 
     // A file's bytes: 4 where the path rule is broken, 5 where it is absent or a folder.
     pub fn fetch(&self, path: &[u8]) -> Result<&'a [u8], Refusal>
-        ensures { Answers (fetch (view (entries_of self.now)) path.now) result }
+        ensures answers { Answers (fetch (view (entries_of self.now)) path.now) result }
+        ensures listed { Listed result }
     {
         if !is_path(path) {
             return Err(Refusal::Path);

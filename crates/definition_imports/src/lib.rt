@@ -6,6 +6,7 @@ ghost use Rattle.rules.specs.Bytes.{join};
 ghost use Rattle.rules.specs.Files.{view};
 ghost use Rattle.bundle.specs.Find.{entries_of};
 ghost use Rattle.paths.specs.Joined.{text};
+ghost use Rattle.refusal.specs.Numbers.{Listed};
 ghost use Rattle.definition_imports.specs.Import.{at_path, named, JoinsPath, IsPath, Opens, IsImport};
 
 use buffers::writer::Writer;
@@ -23,7 +24,8 @@ pub struct Import<'p, 'a> {
 
 // Makes `joined` a path that is joined to a folder; refused where that breaks the path rule.
 fn join_path(folder: &[u8], path: &[u8], joined: &mut Path) -> Result<(), Refusal>
-    ensures { JoinsPath (join folder.now path.now) joined.new result }
+    ensures joins { JoinsPath (join folder.now path.now) joined.new result }
+    ensures listed { Listed result }
 {
     join_within(folder, path, joined)?;
     if !is_path(joined.as_bytes()) {
@@ -38,7 +40,8 @@ fn open_import<'p, 'a>(
     path: &'p Path,
     levels: usize,
 ) -> Result<Option<File<'p, 'a>>, Refusal>
-    ensures { Opens (view (entries_of bundle.now)) levels (at_path (view (entries_of bundle.now)) levels (text path.now)) result }
+    ensures opens { Opens (view (entries_of bundle.now)) levels (at_path (view (entries_of bundle.now)) levels (text path.now)) result }
+    ensures listed { Listed result }
 {
     match bundle.find(path.as_bytes()) {
         Found::Absent => Ok(None),
@@ -59,7 +62,8 @@ fn named_file<'p, 'a>(
     levels: usize,
     joined: &'p mut Path,
 ) -> Result<Option<File<'p, 'a>>, Refusal>
-    ensures { (p : List ℕ) → IsPath p path.entry → Opens (view (entries_of bundle.now)) levels (named (view (entries_of bundle.now)) levels folder.now p) result }
+    ensures opens { (p : List ℕ) → IsPath p path.entry → Opens (view (entries_of bundle.now)) levels (named (view (entries_of bundle.now)) levels folder.now p) result }
+    ensures listed { (p : List ℕ) → IsPath p path.entry → Listed result }
 {
     join_path(folder, path?, joined)?;
     open_import(bundle, joined, levels)
@@ -75,7 +79,8 @@ pub fn find_import<'p, 'a>(
     levels: usize,
     joined: &'p mut Path,
 ) -> Read<Import<'p, 'a>>
-    ensures { IsImport (view (entries_of bundle.now)) levels folder.now text.now result }
+    ensures reads { IsImport (view (entries_of bundle.now)) levels folder.now text.now result }
+    ensures listed { Listed result.what.file }
 {
     let from = scan::span(text, 0, Set::Blank);
     if !scan::at(text, from, b'"') {

@@ -4,6 +4,7 @@
 ghost use Rattle.rules.specs.Bytes.{join};
 ghost use Rattle.rules.specs.Files.{view};
 ghost use Rattle.bundle.specs.Find.{entries_of};
+ghost use Rattle.refusal.specs.Numbers.{Listed};
 ghost use Rattle.marked_files.specs.Files.{OpensFile};
 
 use bundle::{Bundle, File, join_within, open_within};
@@ -20,7 +21,8 @@ pub fn open_file<'p, 'a>(
     levels: usize,
     joined: &'p mut Path,
 ) -> Result<File<'p, 'a>, Refusal>
-    ensures { OpensFile (view (entries_of bundle.now)) levels (join folder.now path.now) result }
+    ensures opens { OpensFile (view (entries_of bundle.now)) levels (join folder.now path.now) result }
+    ensures listed { Listed result }
 {
     join_within(folder, path, joined)?;
     let text = bundle.fetch(joined.as_bytes())?;

@@ -2,7 +2,7 @@
 #![tactic(auto)]
 
 ghost use Rattle.std.specs.Prelude.{◌≡◌, ◌≤◌, ◌<◌, MatchResult};
-ghost use Rattle.refusal.specs.Numbers.{number};
+ghost use Rattle.refusal.specs.Numbers.{number, Listed};
 
 // Why a call is refused.
 #[derive(Clone, Copy, Debug, PartialEq, Eq)]
@@ -56,10 +56,12 @@ impl From<Refusal> for u8 {
 }
 
 impl Refusal {
-    // A call's number as a result: 0 where it is accepted, else its refusal.
+    // A call's number as a result: 0 where it is accepted, else its refusal, one of the eleven.
+    #[tactic(auto, unfolding(crate::specs::Numbers::told))]
     pub fn check(n: u8) -> Result<(), Refusal>
         requires { n ≤ 11 }
-        ensures { MatchResult result (λ _. n ≡ 0) (λ refusal. (n ≡ number refusal) × (0 < n)) }
+        ensures reads { MatchResult result (λ _. n ≡ 0) (λ refusal. (n ≡ number refusal) × (0 < n)) }
+        ensures listed { Listed result }
     {
         match n {
             0 => Ok(()),

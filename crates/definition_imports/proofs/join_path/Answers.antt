@@ -2,5 +2,5 @@ use Rattle.std.proofs.Common.{arith}
 use Rattle.definition_imports.specs.Import.{joined-over}
 use Rattle.definition_imports.proofs.join_path.Goals as goal
 
-pub returns-in_err-join_within : goal.returns-in_err-join_within
-returns-in_err-join_within c = joined-over _ c.join_within.new.joined c.in_err-join_within.ensures (grind arith)
+pub returns-in_err-join_within-clause-joins : goal.returns-in_err-join_within-clause-joins
+returns-in_err-join_within-clause-joins c = joined-over _ c.join_within.new.joined c.in_err-join_within.ensures.joins (grind arith)

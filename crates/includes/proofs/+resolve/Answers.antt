@@ -11,12 +11,12 @@ pub put_mark-returns-in_err-file-in-Include : goal.put_mark-returns-in_err-file-
 unfolding emit_of
 put_mark-returns-in_err-file-in-Include t c =
     let gone : c.from_residual.result ≡ Err c.in_err-file-in-Include.field-0.0 = grind arith in
-    rw (c.in-Include.is, c.in_err-file-in-Include.ensures c.args.folder.now, gone) (wrote-fail _ _)
+    rw (c.in-Include.is, c.in_err-file-in-Include.ensures.opens c.args.folder.now, gone) (wrote-fail _ _)
 
 pub put_mark-returns-in_err-resolve-in-Include : goal.put_mark-returns-in_err-resolve-in-Include
 unfolding emit_of
 put_mark-returns-in_err-resolve-in-Include t c =
-    rw (c.in-Include.is, c.in_ok-file-in-Include.ensures.goes c.args.folder.now c.folder.ensures)
+    rw (c.in-Include.is, c.in_ok-file-in-Include.ensures.opens.goes c.args.folder.now c.folder.ensures)
     (wrote-no (put (bytes "\n") ok) c.in_err-resolve-in-Include.was c.resolve.ensures.wrote (grind arith))
 
 pub put_mark-returns-in-Copied : goal.put_mark-returns-in-Copied
@@ -30,7 +30,7 @@ put_mark-returns-in-Source t c = rw c.in-Source.is c.put_source.ensures
 pub put_mark-returns-in_ok-resolve-in-Include : goal.put_mark-returns-in_ok-resolve-in-Include
 unfolding emit_of
 put_mark-returns-in_ok-resolve-in-Include t c =
-    rw (c.in-Include.is, c.in_ok-file-in-Include.ensures.goes c.args.folder.now c.folder.ensures)
+    rw (c.in-Include.is, c.in_ok-file-in-Include.ensures.opens.goes c.args.folder.now c.folder.ensures)
     (wrote-then c.in_ok-resolve-in-Include.was c.resolve.ensures.wrote (puts-wrote c.put-in-Include.ensures))
 
 pub resolve-marks-init : goal.resolve-marks-init

@@ -9,7 +9,7 @@ pub check-requires : goal.check-requires
 check-requires c = defined-known _ (search rules) (search rules) (search rules) c.parse_definitions-d.ensures
 
 pub returns-in-Err : goal.returns-in-Err
-returns-in-Err c = builds-refused refl (built-refused _ (search rules) (search rules) (search rules) c.parse_definitions-d.ensures _ c.in-Err.ensures)
+returns-in-Err c = builds-refused refl (built-refused _ (search rules) (search rules) (search rules) c.parse_definitions-d.ensures _ c.in-Err.ensures.reads)
 
 pub slice_bounds-sheet-end : goal.slice_bounds-sheet-end
 slice_bounds-sheet-end c = sheet-fits _ (search rules) (search rules) (search rules) c.parse_definitions-d.ensures
@@ -18,4 +18,4 @@ pub slice_bounds-pass_main-end : goal.slice_bounds-pass_main-end
 slice_bounds-pass_main-end c = sym (length-take-le _ _ (sheet-fits _ (search rules) (search rules) (search rules) c.parse_definitions-d.ensures))
 
 pub returns-in-Ok : goal.returns-in-Ok
-returns-in-Ok c = builds-same (built_main _ (search rules) (search rules) (search rules) c.parse_definitions-d.ensures c.in-Ok.ensures) c.pass_main.ensures
+returns-in-Ok c = builds-same (built_main _ (search rules) (search rules) (search rules) c.parse_definitions-d.ensures c.in-Ok.ensures.reads) c.pass_main.ensures

@@ -11,37 +11,37 @@ use Rattle.definitions.proofs.files.+parse_step.Goals as goal
 pub import_step-returns-in_err-file-clause-steps : goal.import_step-returns-in_err-file-clause-steps
 import_step-returns-in_err-file-clause-steps t c =
     let gone : c.from_residual.result ≡ Err c.in_err-file.field-0.0 = grind arith in
-    rw gone (import-refused _ _ _ _ c.args.left.now c.find_import-import.ensures c.in_err-file.was)
+    rw gone (import-refused _ _ _ _ c.args.left.now c.find_import-import.ensures.reads c.in_err-file.was)
 
 pub import_step-returns-in_default-clause-steps : goal.import_step-returns-in_default-clause-steps
-import_step-returns-in_default-clause-steps t c = import-nothing _ _ _ _ c.args.left.now c.find_import-import.ensures (c.in_ok-file.was ∙ ap Ok c.in_default.is)
+import_step-returns-in_default-clause-steps t c = import-nothing _ _ _ _ c.args.left.now c.find_import-import.ensures.reads (c.in_ok-file.was ∙ ap Ok c.in_default.is)
 
 pub import_step-split_at_mut-own-requires : goal.import_step-split_at_mut-own-requires
 import_step-split_at_mut-own-requires t c = room-slot c.requires
 
 pub import_step-overflow_sub-levels : goal.import_step-overflow_sub-levels
-import_step-overflow_sub-levels t c = (file-there c.find_import-import.ensures (c.in_ok-file.was ∙ ap Ok c.in-Some.is)).0
+import_step-overflow_sub-levels t c = (file-there c.find_import-import.ensures.reads (c.in_ok-file.was ∙ ap Ok c.in-Some.is)).0
 
 pub import_step-new-requires : goal.import_step-new-requires
-import_step-new-requires t c = (file-there c.find_import-import.ensures (c.in_ok-file.was ∙ ap Ok c.in-Some.is)).1
+import_step-new-requires t c = (file-there c.find_import-import.ensures.reads (c.in_ok-file.was ∙ ap Ok c.in-Some.is)).1
 
 pub import_step-parse-requires : goal.import_step-parse-requires
 import_step-parse-requires t c =
-    let there = file-there c.find_import-import.ensures (c.in_ok-file.was ∙ ap Ok c.in-Some.is) in
+    let there = file-there c.find_import-import.ensures.reads (c.in_ok-file.was ∙ ap Ok c.in-Some.is) in
     (omega (arith, there.0), room-inner c.args.levels c.requires there.0 _ c.split_at_mut-own.ensures.back_len)
 
 pub import_step-returns-in_err-parse-clause-steps : goal.import_step-returns-in_err-parse-clause-steps
 unfolding ComesTo
 import_step-returns-in_err-parse-clause-steps t c =
     let gone : c.from_residual-in_err-parse.result ≡ Err c.in_err-parse.field-0.0 = grind arith in
-    rw gone (import-stopped _ _ _ _ c.args.left.now c.find_import-import.ensures (c.in_ok-file.was ∙ ap Ok c.in-Some.is) c.folder.ensures (rw c.new.ensures at c.in_err-parse.ensures.parses) c.in_err-parse.ensures.over.over)
+    rw gone (import-stopped _ _ _ _ c.args.left.now c.find_import-import.ensures.reads (c.in_ok-file.was ∙ ap Ok c.in-Some.is) c.folder.ensures (rw c.new.ensures at c.in_err-parse.ensures.parses) c.in_err-parse.ensures.over.over)
 
 pub import_step-new-requires-2 : goal.import_step-new-requires-2
 import_step-new-requires-2 t c = saved-sheet c.args.left.now c.records.ensures c.split_at_mut-own.result.0.now c.store.ensures (omega (arith, c.split_at_mut-own.ensures.front_len))
 
 pub import_step-bind_imported-requires : goal.import_step-bind_imported-requires
 import_step-bind_imported-requires t c =
-    let there = file-there c.find_import-import.ensures (c.in_ok-file.was ∙ ap Ok c.in-Some.is) in
+    let there = file-there c.find_import-import.ensures.reads (c.in_ok-file.was ∙ ap Ok c.in-Some.is) in
     let room = room-inner c.args.levels c.requires there.0 _ c.split_at_mut-own.ensures.back_len in
     (omega (arith, ap length c.new-2.ensures, saved-short c.args.left.now c.records.ensures c.split_at_mut-own.result.0.now c.store.ensures (omega (arith, c.split_at_mut-own.ensures.front_len)), c.in_ok-parse.ensures.over.over.limit), omega (arith, room-slot room, c.parse.auto.work, c.in_ok-parse.ensures.over.over.limit))
 
@@ -50,13 +50,13 @@ unfolding ComesTo
 import_step-returns-in_err-bind_imported-clause-steps t c =
     let gone : c.from_residual-in_err-bind_imported.result ≡ Err c.in_err-bind_imported.field-0.0 = grind arith in
     let saved = c.new-2.ensures ∙ saved-bytes c.args.left.now c.records.ensures c.split_at_mut-own.result.0.now c.store.ensures (omega (arith, c.split_at_mut-own.ensures.front_len)) in
-    rw gone (import-over _ _ _ _ c.args.left.now c.find_import-import.ensures (c.in_ok-file.was ∙ ap Ok c.in-Some.is) c.folder.ensures c.parse.new.left (rw c.new.ensures at c.in_ok-parse.ensures.parses) saved c.in_ok-parse.ensures.over.over.limit c.in_err-bind_imported.ensures.binds (same-then c.in_ok-parse.ensures.over.over c.in_err-bind_imported.ensures.over.over))
+    rw gone (import-over _ _ _ _ c.args.left.now c.find_import-import.ensures.reads (c.in_ok-file.was ∙ ap Ok c.in-Some.is) c.folder.ensures c.parse.new.left (rw c.new.ensures at c.in_ok-parse.ensures.parses) saved c.in_ok-parse.ensures.over.over.limit c.in_err-bind_imported.ensures.binds (same-then c.in_ok-parse.ensures.over.over c.in_err-bind_imported.ensures.over.over))
 
 pub import_step-returns-clause-steps : goal.import_step-returns-clause-steps
 unfolding ComesTo
 import_step-returns-clause-steps t c =
     let saved = c.new-2.ensures ∙ saved-bytes c.args.left.now c.records.ensures c.split_at_mut-own.result.0.now c.store.ensures (omega (arith, c.split_at_mut-own.ensures.front_len)) in
-    import-bound _ _ _ _ c.args.left.now c.find_import-import.ensures (c.in_ok-file.was ∙ ap Ok c.in-Some.is) c.folder.ensures c.parse.new.left (rw c.new.ensures at c.in_ok-parse.ensures.parses) saved c.in_ok-parse.ensures.over.over.limit c.bind_imported.new.left c.in_ok-bind_imported.ensures.binds
+    import-bound _ _ _ _ c.args.left.now c.find_import-import.ensures.reads (c.in_ok-file.was ∙ ap Ok c.in-Some.is) c.folder.ensures c.parse.new.left (rw c.new.ensures at c.in_ok-parse.ensures.parses) saved c.in_ok-parse.ensures.over.over.limit c.bind_imported.new.left c.in_ok-bind_imported.ensures.binds
 
 pub parse-new-requires : goal.parse-new-requires
 parse-new-requires t c = no-bytes
