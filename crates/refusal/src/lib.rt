@@ -57,7 +57,6 @@ impl From<Refusal> for u8 {
 
 impl Refusal {
     // A call's number as a result: 0 where it is accepted, else its refusal, one of the eleven.
-    #[tactic(auto, unfolding(crate::specs::Numbers::told))]
     pub fn check(n: u8) -> Result<(), Refusal>
         requires { n ≤ 11 }
         ensures reads { MatchResult result (λ _. n ≡ 0) (λ refusal. (n ≡ number refusal) × (0 < n)) }

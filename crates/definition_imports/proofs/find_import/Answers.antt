@@ -7,11 +7,11 @@ use Rattle.definition_imports.proofs.find_import.Goals as goal
 pub returns-then-not-at-clause-reads : goal.returns-then-not-at-clause-reads
 returns-then-not-at-clause-reads c = import-none _ _ _ c.span-from.ensures c.at.ensures c.if-not-at.true (spans-but "\n" c.find-used.ensures) refl refl
 
-pub returns-clause-reads : goal.returns-clause-reads
-returns-clause-reads c =
+pub returns : goal.returns
+returns c =
     let tail = tail-part c.args.text.now (c.span-from.result + 1) in
     let path = is-path refl c.new-w.ensures c.literal-read.ensures _ c.text.ensures c.and-path.ensures in
-    import-read _ _ _ c.span-from.ensures c.at.ensures c.if-not-at.false tail c.literal-read.ensures c.span-names.ensures (spans-but "\n" c.find-used-2.ensures) (c.named_file.ensures.opens _ path) refl (tail-part c.args.text.now c.span-names.result) refl
-
-pub returns-clause-listed : goal.returns-clause-listed
-returns-clause-listed c = c.named_file.ensures.listed _ (is-path refl c.new-w.ensures c.literal-read.ensures _ c.text.ensures c.and-path.ensures)
+    record {
+      reads = import-read _ _ _ c.span-from.ensures c.at.ensures c.if-not-at.false tail c.literal-read.ensures c.span-names.ensures (spans-but "\n" c.find-used-2.ensures) (c.named_file.ensures.opens _ path) refl (tail-part c.args.text.now c.span-names.result) refl;
+      listed = c.named_file.ensures.listed _ path;
+    }
